@@ -1,0 +1,2 @@
+// The numbers that a user of the library sees.
+pub mod refusal;

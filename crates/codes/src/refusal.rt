@@ -1,0 +1,49 @@
+// Why a call was refused. A refused call changes nothing.
+ghost use mathlib.Core.Path.{_≡_};
+ghost use Rattle.std.specs.declared.option.Option.the-variants.{Some};
+ghost use Rattle.codes.specs.Refusals.{number, meaning, printed};
+use std::fmt;
+
+#[derive(Clone, Copy, Debug, PartialEq, Eq)]
+pub enum Refusal {
+    ZeroConnectionId,
+    UnlawfulLength,
+    ZeroWatchdog,
+    TooManyUserOctets,
+}
+
+impl Refusal {
+    // The number by which the documents list the refusal.
+    pub fn number(self) -> u16
+        ensures { λ r. ⌜ r ≡ number self ⌝ }
+    {
+        match self {
+            Refusal::ZeroConnectionId => 31,
+            Refusal::UnlawfulLength => 32,
+            Refusal::ZeroWatchdog => 33,
+            Refusal::TooManyUserOctets => 34,
+        }
+    }
+
+    // What was wrong, in words.
+    pub fn meaning(self) -> &'static str
+        ensures { λ r. ⌜ now r ≡ meaning self ⌝ }
+    {
+        match self {
+            Refusal::ZeroConnectionId => "the connection ID is 0",
+            Refusal::UnlawfulLength => "the data length is not an even number from 2 to 32",
+            Refusal::ZeroWatchdog => "the watchdog time is 0",
+            Refusal::TooManyUserOctets => "there are more than 16 user parameter octets",
+        }
+    }
+}
+
+pub impl fmt::Display for Refusal as RefusalDisplay {
+    ghost shown = { λ r. Some (printed r) };
+
+    fn fmt<W: fmt::Write>(&self, f: &mut fmt::Formatter<W>) -> fmt::Result {
+        let number = self.number();
+        let meaning = self.meaning();
+        write!(f, "{number}: {meaning}")
+    }
+}

@@ -1,0 +1,28 @@
+// Building a data length, and asking for it.
+ghost use mathlib.Core.Path.{_≡_};
+ghost use Prim.Native.Nat.{_%_, _≤_};
+ghost use Rattle.length.specs.Lengths.{Built};
+use crate::data_length::DataLength;
+use codes::refusal::Refusal;
+
+impl DataLength {
+    // The length of that many octets, or a refusal where it is not lawful.
+    pub fn new(octets: usize) -> Result<DataLength, Refusal>
+        ensures { λ r. ⌜ Built octets r ⌝ }
+    {
+        if octets >= 2 && octets <= 32 && octets % 2 == 0 {
+            Ok(DataLength { octets })
+        } else {
+            Err(Refusal::UnlawfulLength)
+        }
+    }
+
+    pub fn octets(self) -> usize
+        ensures value { λ r. ⌜ r ≡ self .octets ⌝ }
+        ensures low_bound { λ r. ⌜ 2 ≤ r ⌝ }
+        ensures high_bound { λ r. ⌜ r ≤ 32 ⌝ }
+        ensures even { λ r. ⌜ r % 2 ≡ 0 ⌝ }
+    {
+        self.octets
+    }
+}
