@@ -7,7 +7,7 @@ use Rattle.std.specs.declared.result.Result.the-variants.{Ok, Err}
 use Rattle.codes.specs.declared.refusal.Refusal.{Refusal}
 use Rattle.codes.specs.declared.refusal.Refusal.the-variants.{UnlawfulLength}
 use Rattle.length.specs.Lawful.{lawful}
-use Rattle.length.specs.declared.data_length.DataLength.{DataLength}
+use Rattle.length.specs.declared.DataLength.{DataLength}
 
 -- a length of that many octets where that is lawful, and a refusal where it is not
 abbrev pub Built : ℕ → Result DataLength Refusal → Type 0

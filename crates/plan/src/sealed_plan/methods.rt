@@ -1,7 +1,7 @@
 // Sealing a draft, asking a sealed plan for its values, and reopening it.
 ghost use mathlib.Core.Path.{_≡_};
 ghost use Prim.Native.Nat.{_≤_};
-ghost use Rattle.plan.specs.Sealing.{Sealed};
+ghost use Rattle.plan.specs.Sealing.{Sealed, refused};
 use super::SealedPlan;
 use super::Unsealed;
 use crate::draft::Draft;
@@ -13,25 +13,25 @@ impl Draft {
     pub fn seal(self) -> Result<SealedPlan, Unsealed>
         ensures { λ r. ⌜ Sealed self r ⌝ }
     {
+        match self.refusal() {
+            Some(refusal) => Err(Unsealed { draft: self, refusal }),
+            None => Ok(SealedPlan { draft: self }),
+        }
+    }
+
+    // The first refusal that sealing would meet.
+    fn refusal(&self) -> Option<Refusal>
+        ensures { λ r. ⌜ r ≡ refused (now (self .entry)) ⌝ }
+    {
         if self.id == 0 {
-            return Err(Unsealed {
-                draft: self,
-                refusal: Refusal::ZeroConnectionId,
-            });
+            Some(Refusal::ZeroConnectionId)
+        } else if self.watchdog == 0 {
+            Some(Refusal::ZeroWatchdog)
+        } else if self.user_octets > 16 {
+            Some(Refusal::TooManyUserOctets)
+        } else {
+            None
         }
-        if self.watchdog == 0 {
-            return Err(Unsealed {
-                draft: self,
-                refusal: Refusal::ZeroWatchdog,
-            });
-        }
-        if self.user_octets > 16 {
-            return Err(Unsealed {
-                draft: self,
-                refusal: Refusal::TooManyUserOctets,
-            });
-        }
-        Ok(SealedPlan { draft: self })
     }
 }
 
@@ -73,6 +73,7 @@ impl SealedPlan {
     pub fn reopen(self) -> Draft
         ensures { λ r. ⌜ r ≡ self .draft ⌝ }
     {
-        self.draft
+        let SealedPlan { draft } = self;
+        draft
     }
 }

@@ -1,7 +1,7 @@
 // A data length as its number of octets.
 ghost use Rattle.std.specs.declared.option.Option.the-variants.{Some};
 ghost use Rattle.std.specs.Written.{decimal};
-use super::DataLength;
+use crate::DataLength;
 use std::fmt;
 
 pub impl fmt::Display for DataLength as DataLengthDisplay {

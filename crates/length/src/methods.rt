@@ -2,7 +2,7 @@
 ghost use mathlib.Core.Path.{_≡_};
 ghost use Prim.Native.Nat.{_%_, _≤_};
 ghost use Rattle.length.specs.Lengths.{Built};
-use crate::data_length::DataLength;
+use crate::DataLength;
 use codes::refusal::Refusal;
 
 impl DataLength {
