@@ -1,0 +1,8 @@
+-- The register is fed in the order of the definition.
+use borrow.Author.Needs.{needs}
+use Rattle.crc.specs.Crc.{shared}
+use Rattle.crc.proofs.part.Shared.new.Needs as need
+
+pub returns : need.returns
+unfolding shared
+returns c = search needs

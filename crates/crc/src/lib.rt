@@ -1,0 +1,3 @@
+// The CRC of the wire format.
+pub mod part;
+pub mod register;
