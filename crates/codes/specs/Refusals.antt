@@ -4,15 +4,19 @@ use mathlib.Core.List.{List, _++_}
 use lib.Chars.{codes}
 use Rattle.std.specs.Written.{decimal}
 use Rattle.codes.specs.declared.refusal.Refusal.{Refusal}
-use Rattle.codes.specs.declared.refusal.Refusal.the-variants.{ZeroConnectionId, UnlawfulLength, ZeroWatchdog, TooManyUserOctets}
+use Rattle.codes.specs.declared.refusal.Refusal.the-variants.{WrongFrameLength, ShortReplyBuffer, ZeroConnectionId, UnlawfulLength, ZeroWatchdog, TooManyUserOctets}
 
 abbrev pub number : Refusal → ℕ
+number WrongFrameLength = 21
+number ShortReplyBuffer = 22
 number ZeroConnectionId = 31
 number UnlawfulLength = 32
 number ZeroWatchdog = 33
 number TooManyUserOctets = 34
 
 abbrev pub meaning : Refusal → List ℕ
+meaning WrongFrameLength = codes "the frame has another length than the connection's frames"
+meaning ShortReplyBuffer = codes "the reply buffer is shorter than a frame"
 meaning ZeroConnectionId = codes "the connection ID is 0"
 meaning UnlawfulLength = codes "the data length is not an even number from 2 to 32"
 meaning ZeroWatchdog = codes "the watchdog time is 0"

@@ -6,6 +6,8 @@ use std::fmt;
 
 #[derive(Clone, Copy, Debug, PartialEq, Eq)]
 pub enum Refusal {
+    WrongFrameLength,
+    ShortReplyBuffer,
     ZeroConnectionId,
     UnlawfulLength,
     ZeroWatchdog,
@@ -18,6 +20,8 @@ impl Refusal {
         ensures { λ r. ⌜ r ≡ number self ⌝ }
     {
         match self {
+            Refusal::WrongFrameLength => 21,
+            Refusal::ShortReplyBuffer => 22,
             Refusal::ZeroConnectionId => 31,
             Refusal::UnlawfulLength => 32,
             Refusal::ZeroWatchdog => 33,
@@ -30,6 +34,8 @@ impl Refusal {
         ensures { λ r. ⌜ now r ≡ meaning self ⌝ }
     {
         match self {
+            Refusal::WrongFrameLength => "the frame has another length than the connection's frames",
+            Refusal::ShortReplyBuffer => "the reply buffer is shorter than a frame",
             Refusal::ZeroConnectionId => "the connection ID is 0",
             Refusal::UnlawfulLength => "the data length is not an even number from 2 to 32",
             Refusal::ZeroWatchdog => "the watchdog time is 0",

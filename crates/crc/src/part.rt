@@ -3,20 +3,38 @@ ghost use mathlib.Core.Path.{_≡_};
 ghost use Rattle.crc.specs.Crc.{shared, part-crc, crc, OnlyNumber};
 use crate::register::Register;
 
-// A register fed with what all parts of a frame share, so that it is fed once for a frame.
+// What all parts of a frame share, and the register that was fed with it: once for a frame.
 #[derive(Clone, Copy)]
 pub struct Shared {
+    command: u8,
+    id: u16,
     register: Register,
 }
 
 impl Shared {
     pub fn new(last: u16, id: u16, number: u16, command: u8) -> Shared
-        ensures { λ r. ⌜ r .register .bits ≡ shared last id number command ⌝ }
+        ensures command { λ r. ⌜ r .command ≡ command ⌝ }
+        ensures id { λ r. ⌜ r .id ≡ id ⌝ }
+        ensures register { λ r. ⌜ r .register .bits ≡ shared last id number command ⌝ }
     {
         let register = Register::zero().feed_number(last).feed_number(id).feed_number(number);
         Shared {
+            command,
+            id,
             register: register.feed(command),
         }
+    }
+
+    pub fn command(self) -> u8
+        ensures { λ r. ⌜ r ≡ self .command ⌝ }
+    {
+        self.command
+    }
+
+    pub fn id(self) -> u16
+        ensures { λ r. ⌜ r ≡ self .id ⌝ }
+    {
+        self.id
     }
 
     // The CRC of part i over its two data octets.

@@ -3,6 +3,12 @@ use mathlib.Core.Path.{ap, sym}
 use Rattle.codes.specs.Refusals.{meaning}
 use Rattle.codes.proofs.refusal.Refusal.meaning.Needs as need
 
+pub returns-in-WrongFrameLength : need.returns-in-WrongFrameLength
+returns-in-WrongFrameLength c = ap meaning (sym (c .in-WrongFrameLength .is))
+
+pub returns-in-ShortReplyBuffer : need.returns-in-ShortReplyBuffer
+returns-in-ShortReplyBuffer c = ap meaning (sym (c .in-ShortReplyBuffer .is))
+
 pub returns-in-ZeroConnectionId : need.returns-in-ZeroConnectionId
 returns-in-ZeroConnectionId c = ap meaning (sym (c .in-ZeroConnectionId .is))
 

@@ -1,0 +1,4 @@
+pub mod Commands
+pub mod Layout
+pub mod Reading
+pub mod Received

@@ -1,0 +1,37 @@
+// A frame in writing.
+ghost use mathlib.Core.Path.{_≡_};
+ghost use Rattle.frame.specs.Layout.{filled};
+use crc::part::Shared;
+use length::DataLength;
+
+// The octets of a written frame, at the front of room for the longest one.
+#[derive(Clone, Copy)]
+pub struct Outgoing {
+    octets: [u8; 67],
+    size: DataLength,
+}
+
+impl Outgoing {
+    // The frame whose data octets are the first of those given, as many as the data length says.
+    pub fn new(size: DataLength, shared: Shared, given: &[u8; 32]) -> Outgoing
+        ensures octets { λ r. ⌜ r .octets ≡ filled (size .octets) (shared .command) (shared .id) (shared .register .bits) (now (given .entry)) ⌝ }
+        ensures size { λ r. ⌜ r .size ≡ size ⌝ }
+    {
+        let mut octets = [0u8; 67];
+        octets[0] = shared.command();
+        for i in 0..size.parts() {
+            let from = 2 * i as usize;
+            let [low, high] = shared.part(i, given[from], given[from + 1]).to_le_bytes();
+            let at = 4 * i as usize + 1;
+            octets[at] = given[from];
+            octets[at + 1] = given[from + 1];
+            octets[at + 2] = low;
+            octets[at + 3] = high;
+        }
+        let [low, high] = shared.id().to_le_bytes();
+        let at = 2 * size.octets() + 1;
+        octets[at] = low;
+        octets[at + 1] = high;
+        Outgoing { octets, size }
+    }
+}
