@@ -10,6 +10,7 @@ use Rattle.length.specs.Lawful.{frame-octets}
 use Rattle.crc.specs.Register.{low-high}
 use Rattle.crc.specs.Crc.{part-crc}
 use Rattle.frame.specs.Layout.{parts, frame, filled}
+use Rattle.frame.specs.Reading.{first, second, pairs}
 
 -- two octets
 pub pair : (p : List ℕ) (m k a b : ℕ) → length p ≡ k → set (set (p ++ replicate (m + 2) 0) k a) (k + 1) b ≡ p ++ (a ∷ b ∷ []) ++ replicate m 0
@@ -68,3 +69,18 @@ id-last d command register n given octets bytes h even inv both =
     ap (λ l. set (set l (2 * d + 1) (getD bytes 0 0)) (2 * d + 1 + 1) (getD bytes 1 0)) (inv ∙ ap (λ k. (command ∷ parts register given (d / 2)) ++ replicate k 0) room)
     ∙ pair (command ∷ parts register given (d / 2)) (67 - frame-octets d) (2 * d + 1) (getD bytes 0 0) (getD bytes 1 0) front
     ∙ ap (λ l. (command ∷ (parts register given (d / 2) ++ (getD l 0 0 ∷ getD l 1 0 ∷ []))) ++ replicate (67 - frame-octets d) 0) both
+
+length-pairs : (body : List ℕ) (i : ℕ) → length (pairs body i) ≡ 2 * i
+length-pairs body zero = refl
+length-pairs body (suc i) =
+    let here : length (pairs body i) ≡ 2 * i = length-pairs body i in
+    let sum : length (pairs body i) + 2 ≡ 2 * suc i = omega arith in
+    length-append (pairs body i) _ ∙ sum
+
+-- one pair of data octets more is read
+pub pairs-more : (body octets : List ℕ) (i : ℕ) → i < 16 → octets ≡ pairs body i ++ replicate (32 - 2 * i) 0 → set (set octets (2 * i) (first body i)) (2 * i + 1) (second body i) ≡ pairs body (i + 1) ++ replicate (32 - 2 * (i + 1)) 0
+pairs-more body octets i h inv =
+    let room : 32 - 2 * i ≡ 32 - 2 * (i + 1) + 2 = omega arith in
+    ap (λ l. set (set l (2 * i) (first body i)) (2 * i + 1) (second body i)) (inv ∙ ap (λ k. pairs body i ++ replicate k 0) room)
+    ∙ pair (pairs body i) (32 - 2 * (i + 1)) (2 * i) (first body i) (second body i) (length-pairs body i)
+    ∙ ap (λ k. pairs body k ++ replicate (32 - 2 * (i + 1)) 0) (sym (add-one i))

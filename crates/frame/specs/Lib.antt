@@ -1,4 +1,5 @@
 pub mod Commands
 pub mod Layout
+pub mod Writing
 pub mod Reading
 pub mod Received

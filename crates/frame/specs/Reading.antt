@@ -1,9 +1,9 @@
 -- What is read from the octets of a frame of d data octets. Assumes nothing.
 use mathlib.Core.Bool.{Bool, true, _&&_}
 use mathlib.Core.List.{List, [], _∷_, _++_}
-use Prim.Native.Nat.{ℕ, zero, suc, _+_, _*_, _/_}
+use Prim.Native.Nat.{ℕ, zero, suc, _+_, _-_, _*_, _/_, min}
 use lib.Dec.{eqb}
-use lib.ListN.{length, getD, take, drop}
+use lib.ListN.{length, getD, take, drop, replicate}
 use Rattle.crc.specs.Crc.{part-crc}
 use Rattle.length.specs.Lawful.{frame-octets}
 
@@ -48,3 +48,7 @@ parts-right register body (suc i) = parts-right register body i && part-right re
 -- a whole frame whose CRCs are all right
 unfoldable pub right : ℕ → List ℕ → ℕ → Bool
 right d octets register = whole d octets && parts-right register (body d octets) (d / 2)
+
+-- the data octets of a body, up to 32, with zeros behind them
+abbrev pub padded : List ℕ → List ℕ
+padded body = pairs body (min (length body / 4) 16) ++ replicate (32 - 2 * min (length body / 4) 16) 0

@@ -1,6 +1,10 @@
 // A frame in writing.
 ghost use mathlib.Core.Path.{_≡_};
+ghost use lib.ListN.{take};
+ghost use Rattle.length.specs.Lawful.{frame-octets};
 ghost use Rattle.frame.specs.Layout.{filled};
+ghost use Rattle.frame.specs.Writing.{Put};
+use codes::refusal::Refusal;
 use crc::part::Shared;
 use length::DataLength;
 
@@ -34,4 +38,23 @@ impl Outgoing {
         octets[at + 1] = high;
         Outgoing { octets, size }
     }
+
+    // The octets of the frame.
+    pub fn octets(&self) -> &[u8]
+        ensures { λ r. ⌜ now r ≡ take (frame-octets (now (self .entry) .size .octets)) (now (self .entry) .octets) ⌝ }
+    {
+        &self.octets[0..self.size.frame_octets()]
+    }
+}
+
+// Copies a frame to the front of a buffer, or refuses a buffer that is shorter.
+pub fn put(octets: &[u8], out: &mut [u8]) -> Result<(), Refusal>
+    ensures { λ r. ⌜ Put (now (octets .entry)) (now (out .entry)) (now (out .exit)) r ⌝ }
+{
+    let count = octets.len();
+    if out.len() < count {
+        return Err(Refusal::ShortReplyBuffer);
+    }
+    out[0..count].copy_from_slice(octets);
+    Ok(())
 }

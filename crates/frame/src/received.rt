@@ -3,7 +3,7 @@ ghost use mathlib.Core.Path.{_≡_};
 ghost use mathlib.Core.Bool.{true};
 ghost use Prim.Native.Nat.{_+_, _*_, _<_};
 ghost use lib.ListN.{length, getD};
-ghost use Rattle.frame.specs.Reading.{command-octet, body, id, whole, right, part-right};
+ghost use Rattle.frame.specs.Reading.{command-octet, body, id, crc-in, whole, right, part-right, padded};
 ghost use Rattle.frame.specs.Received.{Read};
 use crc::part::Shared;
 use codes::refusal::Refusal;
@@ -78,6 +78,13 @@ impl<'a> Received<'a> {
         right
     }
 
+    // The CRC that stands in the frame's first part; 0 where the frame is too short.
+    pub fn first_crc(self) -> u16
+        ensures { λ r. ⌜ r ≡ crc-in (body (self .entry .size .octets) (now (self .entry .octets))) 0 ⌝ }
+    {
+        u16::from_le_bytes([self.octet(3), self.octet(4)])
+    }
+
     fn whole(self) -> bool
         ensures { λ r. ⌜ r ≡ whole (self .entry .size .octets) (now (self .entry .octets)) ⌝ }
     {
@@ -110,4 +117,16 @@ fn part_is_right(body: &[u8], shared: Shared, i: u16) -> bool
     let at = 4 * i as usize;
     let stands = u16::from_le_bytes([body[at + 2], body[at + 3]]);
     stands == shared.part(i, body[at], body[at + 1])
+}
+
+// The data octets that a frame's body carries, with zeros behind them.
+pub fn data_of(body: &[u8]) -> [u8; 32]
+    ensures { λ r. ⌜ r ≡ padded (now (body .entry)) ⌝ }
+{
+    let mut octets = [0u8; 32];
+    for i in 0..(body.len() / 4).min(16) {
+        octets[2 * i] = body[4 * i];
+        octets[2 * i + 1] = body[4 * i + 1];
+    }
+    octets
 }
