@@ -14,6 +14,13 @@ whole d octets = eqb (length octets) (frame-octets d)
 abbrev pub command-octet : List ℕ → ℕ
 command-octet octets = getD octets 0 0
 
+-- the first two data octets stand behind the command
+abbrev pub first-octet : List ℕ → ℕ
+first-octet octets = getD octets 1 0
+
+abbrev pub second-octet : List ℕ → ℕ
+second-octet octets = getD octets 2 0
+
 -- what stands between the command and the connection ID
 abbrev pub body : ℕ → List ℕ → List ℕ
 body d octets = take (2 * d) (drop 1 octets)

@@ -3,7 +3,7 @@ ghost use mathlib.Core.Path.{_≡_};
 ghost use mathlib.Core.Bool.{true};
 ghost use Prim.Native.Nat.{_+_, _*_, _<_};
 ghost use lib.ListN.{length, getD};
-ghost use Rattle.frame.specs.Reading.{command-octet, body, id, crc-in, whole, right, part-right, padded};
+ghost use Rattle.frame.specs.Reading.{command-octet, first-octet, second-octet, body, id, whole, right, part-right, padded};
 ghost use Rattle.frame.specs.Received.{Read};
 use crc::part::Shared;
 use codes::refusal::Refusal;
@@ -78,11 +78,18 @@ impl<'a> Received<'a> {
         right
     }
 
-    // The CRC that stands in the frame's first part; 0 where the frame is too short.
-    pub fn first_crc(self) -> u16
-        ensures { λ r. ⌜ r ≡ crc-in (body (self .entry .size .octets) (now (self .entry .octets))) 0 ⌝ }
+    // The first data octet; 0 where there is none.
+    pub fn first(self) -> u8
+        ensures { λ r. ⌜ r ≡ first-octet (now (self .entry .octets)) ⌝ }
     {
-        u16::from_le_bytes([self.octet(3), self.octet(4)])
+        self.octet(1)
+    }
+
+    // The second data octet; 0 where there is none.
+    pub fn second(self) -> u8
+        ensures { λ r. ⌜ r ≡ second-octet (now (self .entry .octets)) ⌝ }
+    {
+        self.octet(2)
     }
 
     fn whole(self) -> bool

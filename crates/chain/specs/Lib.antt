@@ -1,0 +1,4 @@
+pub mod Numbers
+pub mod Written
+pub mod Chain
+pub mod Choosing
