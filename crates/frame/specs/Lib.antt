@@ -3,3 +3,4 @@ pub mod Layout
 pub mod Writing
 pub mod Reading
 pub mod Received
+pub mod ReadsBack

@@ -4,6 +4,7 @@ ghost use lib.ListN.{take};
 ghost use Rattle.length.specs.Lawful.{frame-octets};
 ghost use Rattle.frame.specs.Layout.{filled};
 ghost use Rattle.frame.specs.Writing.{Put};
+ghost use Rattle.frame.specs.ReadsBack.{Back};
 use codes::refusal::Refusal;
 use crc::part::Shared;
 use length::DataLength;
@@ -20,6 +21,7 @@ impl Outgoing {
     pub fn new(size: DataLength, shared: Shared, given: &[u8; 32]) -> Outgoing
         ensures octets { λ r. ⌜ r .octets ≡ filled (size .octets) (shared .command) (shared .id) (shared .register .bits) (now (given .entry)) ⌝ }
         ensures size { λ r. ⌜ r .size ≡ size ⌝ }
+        ensures reads_back { λ r. ⌜ Back size shared (now (given .entry)) ⌝ }
     {
         let mut octets = [0u8; 67];
         octets[0] = shared.command();

@@ -1,4 +1,5 @@
 -- Each turn stores one part behind the front, and the connection ID goes last.
+use borrow.Author.Needs.{needs}
 use mathlib.Core.Path.{_≡_, refl, sym, ap, _∙_}
 use mathlib.Core.List.{_∷_, _++_}
 use Prim.Native.Nat.{ℕ, _+_, _-_, _*_, _/_}
@@ -7,6 +8,7 @@ use lib.ListN.{getD, set, replicate}
 use Rattle.crc.specs.Register.{low-high}
 use Rattle.frame.specs.Layout.{parts}
 use Rattle.frame.proofs.Filling.{split, parts-more, id-last}
+use Rattle.frame.proofs.RoundTrip.{reads-back}
 use Rattle.frame.proofs.outgoing.Outgoing.new.Needs as need
 
 pub loop-i-again : need.loop-i-again
@@ -31,5 +33,8 @@ returns c =
         (c .loop-i .inv
         ∙ ap (λ k. (c .args .shared .command ∷ parts (c .args .shared .register .bits) (c .args .given .now) k) ++ replicate (66 - 4 * k) 0) every)
         bytes;
-      size = refl
+      size = refl;
+      reads-back =
+        reads-back (c .args .size .octets) (c .args .shared .command) (c .args .shared .id) (c .args .shared .register .bits)
+        (c .args .given .now) (omega arith) (omega arith) (omega arith) (search needs)
     }
