@@ -49,7 +49,7 @@ module _ (n : Numbers) where
         peer = n .peer;
         last = sent-crc id command octets;
         «old_own» = sent-crc id command octets;
-        «old_peer» = n .«old_peer»
+        «old_peer» = n .«old_peer»;
       }
 
   -- reading: the number that the frame must have, its CRC_0 with that number, whether its CRCs are right
@@ -76,6 +76,6 @@ module _ (n : Numbers) where
         peer = next (read-number d octets);
         last = read-crc d octets;
         «old_own» = n .«old_own»;
-        «old_peer» = read-crc d octets
+        «old_peer» = read-crc d octets;
       })
       n

@@ -1,7 +1,7 @@
 // Which number a frame goes with, in writing and in reading alike.
 ghost use mathlib.Core.Path.{_≡_};
 ghost use Rattle.chain.specs.Numbers.{next, passes};
-ghost use Rattle.chain.specs.Choosing.{At, chosen};
+ghost use Rattle.chain.specs.Choosing.{At, chosen, Differs};
 use crc::part::Shared;
 use frame::command::Command;
 
@@ -28,7 +28,8 @@ pub struct Trial {
 impl Trial {
     // The number tried, or the one after it where its CRC_0 would be the old one.
     pub fn choose(self) -> Choice
-        ensures { λ r. ⌜ At self (chosen self) r ⌝ }
+        ensures at { λ r. ⌜ At self (chosen self) r ⌝ }
+        ensures differs { λ r. ⌜ Differs self r ⌝ }
     {
         let choice = self.at(self.tried);
         let clashes = passes(self.command) & (choice.crc == self.old);
@@ -44,7 +45,11 @@ impl Trial {
     {
         let shared = Shared::new(self.last, self.id, number, self.command);
         let crc = shared.part(0, self.first, self.second);
-        Choice { number, crc, shared }
+        Choice {
+            number,
+            crc,
+            shared,
+        }
     }
 }
 

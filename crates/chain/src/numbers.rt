@@ -4,8 +4,8 @@ ghost use Rattle.frame.specs.Commands.{octet};
 ghost use Rattle.chain.specs.Written.{Written};
 ghost use Rattle.chain.specs.Numbers.{fresh, after-sending, taken, after-taking};
 ghost use Rattle.chain.specs.Chain.{InStep, Chains, Differs};
-use crate::choice::next;
 use crate::choice::Trial;
+use crate::choice::next;
 use frame::command::Command;
 use frame::outgoing::Outgoing;
 use frame::received::Received;
@@ -27,13 +27,27 @@ impl Numbers {
         ensures value { λ r. ⌜ r ≡ fresh ⌝ }
         ensures in_step { λ r. ⌜ InStep r r ⌝ }
     {
-        Numbers { own: 1, peer: 1, last: 0, old_own: 0, old_peer: 0 }
+        Numbers {
+            own: 1,
+            peer: 1,
+            last: 0,
+            old_own: 0,
+            old_peer: 0,
+        }
     }
 
     // Writes the next frame.
-    pub fn write(&mut self, size: DataLength, command: Command, id: u16, octets: &[u8; 32]) -> Outgoing
+    pub fn write(
+        &mut self,
+        size: DataLength,
+        command: Command,
+        id: u16,
+        octets: &[u8; 32],
+    ) -> Outgoing
         ensures frame { λ r. ⌜ Written (now (self .entry)) size id (octet command) (now (octets .entry)) r ⌝ }
         ensures numbers { λ r. ⌜ now (self .exit) ≡ after-sending (now (self .entry)) id (octet command) (now (octets .entry)) ⌝ }
+        ensures chain { λ r. ⌜ Chains (now (self .entry)) (size .octets) id (octet command) (now (octets .entry)) ⌝ }
+        ensures differs { λ r. ⌜ Differs (now (self .entry)) id (octet command) (now (octets .entry)) ⌝ }
     {
         let trial = Trial {
             tried: self.own,

@@ -34,7 +34,8 @@ impl Refusal {
         ensures { λ r. ⌜ now r ≡ meaning self ⌝ }
     {
         match self {
-            Refusal::WrongFrameLength => "the frame has another length than the connection's frames",
+            Refusal::WrongFrameLength =>
+                "the frame has another length than the connection's frames",
             Refusal::ShortReplyBuffer => "the reply buffer is shorter than a frame",
             Refusal::ZeroConnectionId => "the connection ID is 0",
             Refusal::UnlawfulLength => "the data length is not an even number from 2 to 32",

@@ -55,10 +55,10 @@ number-one r m n hr hm hn e =
     let hx : bitXor r x < 65536 = xor-lt 16 r x hr (omega arith) in
     let hy : bitXor r y < 65536 = xor-lt 16 r y hr (omega arith) in
     let p : shifts 8 (shifts 8 (bitXor r x)) ≡ shifts 8 (shifts 8 (bitXor r y)) =
-        sym (feed-two r (m % 256) (m / 256) hr am bm) ∙ e ∙ feed-two r (n % 256) (n / 256) hr an bn in
+    sym (feed-two r (m % 256) (m / 256) hr am bm) ∙ e ∙ feed-two r (n % 256) (n / 256) hr an bn in
     let q : bitXor r x ≡ bitXor r y =
-        shifts-one 8 (bitXor r x) (bitXor r y) hx hy
-        (shifts-one 8 (shifts 8 (bitXor r x)) (shifts 8 (bitXor r y)) (shifts-lt 8 (bitXor r x) hx) (shifts-lt 8 (bitXor r y) hy) p) in
+    shifts-one 8 (bitXor r x) (bitXor r y) hx hy
+    (shifts-one 8 (shifts 8 (bitXor r x)) (shifts 8 (bitXor r y)) (shifts-lt 8 (bitXor r x) hx) (shifts-lt 8 (bitXor r y) hy) p) in
     let s : x ≡ y = xor-cancel x y r (xor-comm x r ∙ q ∙ xor-comm r y) in
     let low : m % 256 ≡ n % 256 = omega arith in
     let high : m / 256 ≡ n / 256 = omega arith in

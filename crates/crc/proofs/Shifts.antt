@@ -65,7 +65,7 @@ shift-one x y hx hy e = go (cases-lt x 0x8000) (cases-lt y 0x8000)
         omega arith
     go (inr gx) (inr gy) =
         let p : x * 2 % 65536 ≡ y * 2 % 65536 =
-            xor-cancel (x * 2 % 65536) (y * 2 % 65536) 0x39B7 (sym (shift-high x gx) ∙ e ∙ shift-high y gy) in
+        xor-cancel (x * 2 % 65536) (y * 2 % 65536) 0x39B7 (sym (shift-high x gx) ∙ e ∙ shift-high y gy) in
         let px : x * 2 % 65536 + 65536 ≡ x * 2 = omega arith in
         let py : y * 2 % 65536 + 65536 ≡ y * 2 = omega arith in
         omega arith
@@ -86,12 +86,15 @@ shift-beside x y hx hy = go (cases-lt x 0x8000)
     top =
         let none : y / 0x8000 ≡ 0 = omega arith in
         xor-shr x y 15 ∙ ap (bitXor (x / 0x8000)) none ∙ xor-zero-r (x / 0x8000)
+
     below : bitXor x y < 65536
     below = xor-lt 16 x y hx (omega arith)
+
     doubled : bitXor x y * 2 % 65536 ≡ bitXor (x * 2 % 65536) (y * 2)
     doubled =
         let whole : y * 2 % 65536 ≡ y * 2 = omega arith in
         ap (λ n. n % 65536) (twice-xor x y) ∙ xor-mod (x * 2) (y * 2) 16 ∙ ap (bitXor (x * 2 % 65536)) whole
+
     go : (x < 0x8000) ⊎ (0x8000 ≤ x) → shift (bitXor x y) ≡ bitXor (shift x) (y * 2)
     go (inl low) =
         let t : bitXor x y / 0x8000 ≡ x / 0x8000 = top in

@@ -17,7 +17,10 @@ impl Shared {
         ensures id { λ r. ⌜ r .id ≡ id ⌝ }
         ensures register { λ r. ⌜ r .register .bits ≡ shared last id number command ⌝ }
     {
-        let register = Register::zero().feed_number(last).feed_number(id).feed_number(number);
+        let register = Register::zero()
+            .feed_number(last)
+            .feed_number(id)
+            .feed_number(number);
         Shared {
             command,
             id,
@@ -41,7 +44,11 @@ impl Shared {
     pub fn part(self, i: u16, first: u8, second: u8) -> u16
         ensures { λ r. ⌜ r ≡ part-crc (self .register .bits) i first second ⌝ }
     {
-        let register = if i > 0 { self.register.feed_number(i) } else { self.register };
+        let register = if i > 0 {
+            self.register.feed_number(i)
+        } else {
+            self.register
+        };
         let register = register.feed(first).feed(second);
         register.feed(0).feed(0).feed(0).bits()
     }

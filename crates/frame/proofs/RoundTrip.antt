@@ -29,6 +29,7 @@ module _ (r : ℕ) (o : List ℕ) where
     where
       len : length (parts r o n) ≡ 4 * n
       len = length-parts r o n
+
       go : (i < n → getD (parts r o n) (4 * i + j) 0 ≡ getD (this i) j 0) → (i < n) ⊎ (n ≤ i) → getD (parts r o n ++ this n) (4 * i + j) 0 ≡ getD (this i) j 0
       go earlier (inl before) =
           let l : length (parts r o n) ≡ 4 * n = len in
@@ -92,7 +93,7 @@ module _ (d command i r : ℕ) (o : List ℕ) (low : 2 ≤ d) (even : d % 2 ≡ 
       let whole-frame : List ℕ = command ∷ (parts r o (d / 2) ++ low-high i) in
       let before : length (command ∷ parts r o (d / 2)) ≡ 2 * d + 1 = ap suc length-is ∙ omega arith in
       let at : (j : ℕ) → getD whole-frame (2 * d + 1 + j) 0 ≡ getD (low-high i) j 0 =
-          λ j. ap (λ n. getD whole-frame (n + j) 0) (sym before) ∙ getD-append-add (command ∷ parts r o (d / 2)) (low-high i) j 0 in
+      λ j. ap (λ n. getD whole-frame (n + j) 0) (sym before) ∙ getD-append-add (command ∷ parts r o (d / 2)) (low-high i) j 0 in
       let first-place : 2 * d + 1 ≡ 2 * d + 1 + 0 = omega arith in
       let second-place : 2 * d + 2 ≡ 2 * d + 1 + 1 = omega arith in
       let x : getD whole-frame (2 * d + 1) 0 ≡ i % 256 = ap (λ n. getD whole-frame n 0) first-place ∙ at 0 in
@@ -152,5 +153,5 @@ reads-back d command i r o low high even room =
       command-is = frame-command d command i r o low even;
       id-is = frame-id d command i r o low even;
       octets-are = frame-octets-are d command i r o low high even room;
-      is-right = frame-right d command i r o low even
+      is-right = frame-right d command i r o low even;
     }

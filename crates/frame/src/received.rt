@@ -5,8 +5,8 @@ ghost use Prim.Native.Nat.{_+_, _*_, _<_};
 ghost use lib.ListN.{length, getD};
 ghost use Rattle.frame.specs.Reading.{command-octet, first-octet, second-octet, body, id, whole, right, part-right, padded};
 ghost use Rattle.frame.specs.Received.{Read};
-use crc::part::Shared;
 use codes::refusal::Refusal;
+use crc::part::Shared;
 use length::DataLength;
 
 // A frame by its kind. Each known kind borrows the part between the command and the connection ID.
@@ -37,15 +37,17 @@ impl<'a> Received<'a> {
             return Err(Refusal::WrongFrameLength);
         }
         let body = self.body();
-        Ok(match self.command() {
-            0x2A => Frame::Reset(body),
-            0x4E => Frame::Session(body),
-            0x64 => Frame::Connection(body),
-            0x52 => Frame::Parameter(body),
-            0x36 => Frame::ProcessData(body),
-            0x08 => Frame::FailSafeData(body),
-            _ => Frame::Unknown,
-        })
+        Ok(
+            match self.command() {
+                0x2A => Frame::Reset(body),
+                0x4E => Frame::Session(body),
+                0x64 => Frame::Connection(body),
+                0x52 => Frame::Parameter(body),
+                0x36 => Frame::ProcessData(body),
+                0x08 => Frame::FailSafeData(body),
+                _ => Frame::Unknown,
+            },
+        )
     }
 
     // The command octet, of whatever kind the frame is; 0 where there is none.

@@ -1,7 +1,7 @@
 use crate::Draft;
+use codes::refusal::Refusal;
 use codes::refusal::RefusalDebug;
 use codes::refusal::RefusalPartialEq;
-use codes::refusal::Refusal;
 use length::DataLength;
 use std::test::*;
 
@@ -9,7 +9,13 @@ use std::test::*;
 #[test]
 fn refusals_in_order() -> Result<(), Fail> {
     let length = DataLength::new(4)?;
-    let draft = Draft { id: 0, address: 85, watchdog: 0, length, user_octets: 17 };
+    let draft = Draft {
+        id: 0,
+        address: 85,
+        watchdog: 0,
+        length,
+        user_octets: 17,
+    };
     let mut draft = refused(draft, Refusal::ZeroConnectionId)?;
     check_eq(draft.user_octets, 17)?;
     draft.id = 1;

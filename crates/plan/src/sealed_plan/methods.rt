@@ -14,7 +14,10 @@ impl Draft {
         ensures { λ r. ⌜ Sealed self r ⌝ }
     {
         match self.refusal() {
-            Some(refusal) => Err(Unsealed { draft: self, refusal }),
+            Some(refusal) => Err(Unsealed {
+                draft: self,
+                refusal,
+            }),
             None => Ok(SealedPlan { draft: self }),
         }
     }

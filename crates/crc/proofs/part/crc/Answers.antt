@@ -8,7 +8,7 @@ returns c =
     record {
       value = search needs;
       one-to-one =
-        only-number (c .args .i) (c .args .last) (c .args .id) (c .args .number) (c .args .command) (c .args .first)
-        (c .args .second) (omega arith) (omega arith) (omega arith) (omega arith) (omega arith) (omega arith)
-        (omega arith)
+          only-number (c .args .i) (c .args .last) (c .args .id) (c .args .number) (c .args .command) (c .args .first)
+          (c .args .second) (omega arith) (omega arith) (omega arith) (omega arith) (omega arith) (omega arith)
+          (omega arith);
     }
