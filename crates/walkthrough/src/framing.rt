@@ -1,9 +1,9 @@
 // Two ends in step write and read a few frames, from the Session exchange on.
 use chain::numbers::Numbers;
 use frame::command::Command;
-use frame::received::data_of;
 use frame::received::Frame;
 use frame::received::Received;
+use frame::received::data_of;
 use hex::Hex;
 use hex::HexDisplay;
 use length::DataLength;
@@ -18,11 +18,51 @@ pub fn exchange_frames(rt: &LibcRuntime) -> Result<(), AnyError> {
     println!(rt, "frames of 4 data octets, master and slave in turn")?;
     let mut master = Numbers::fresh();
     let mut slave = Numbers::fresh();
-    send(rt, size, &mut master, &mut slave, Command::Session, 0, [0xb2, 0xa1, 0, 0])?;
-    send(rt, size, &mut slave, &mut master, Command::Session, 0, [0xd4, 0xc3, 0, 0])?;
-    send(rt, size, &mut master, &mut slave, Command::Connection, ID, [0x34, 0x12, 0x55, 0])?;
-    send(rt, size, &mut slave, &mut master, Command::Connection, ID, [0x34, 0x12, 0x55, 0])?;
-    send(rt, size, &mut master, &mut slave, Command::ProcessData, ID, [1, 2, 3, 4])?;
+    send(
+        rt,
+        size,
+        &mut master,
+        &mut slave,
+        Command::Session,
+        0,
+        [0xb2, 0xa1, 0, 0],
+    )?;
+    send(
+        rt,
+        size,
+        &mut slave,
+        &mut master,
+        Command::Session,
+        0,
+        [0xd4, 0xc3, 0, 0],
+    )?;
+    send(
+        rt,
+        size,
+        &mut master,
+        &mut slave,
+        Command::Connection,
+        ID,
+        [0x34, 0x12, 0x55, 0],
+    )?;
+    send(
+        rt,
+        size,
+        &mut slave,
+        &mut master,
+        Command::Connection,
+        ID,
+        [0x34, 0x12, 0x55, 0],
+    )?;
+    send(
+        rt,
+        size,
+        &mut master,
+        &mut slave,
+        Command::ProcessData,
+        ID,
+        [1, 2, 3, 4],
+    )?;
     damage(rt, size, &mut slave, &mut master)
 }
 
@@ -39,11 +79,23 @@ fn send(
     let written = writer.write(size, command, id, &padded(octets));
     let hex = Hex(written.octets());
     println!(rt, "  write {hex}")?;
-    read(rt, reader, Received { octets: written.octets(), size })
+    read(
+        rt,
+        reader,
+        Received {
+            octets: written.octets(),
+            size,
+        },
+    )
 }
 
 // A frame whose last CRC octet was changed on the way is not taken.
-fn damage(rt: &LibcRuntime, size: DataLength, writer: &mut Numbers, reader: &mut Numbers) -> Result<(), AnyError> {
+fn damage(
+    rt: &LibcRuntime,
+    size: DataLength,
+    writer: &mut Numbers,
+    reader: &mut Numbers,
+) -> Result<(), AnyError> {
     let written = writer.write(size, Command::FailSafeData, ID, &[0; 32]);
     let mut octets = [0u8; 11];
     for (place, octet) in octets.iter_mut().zip(written.octets()) {
@@ -52,8 +104,22 @@ fn damage(rt: &LibcRuntime, size: DataLength, writer: &mut Numbers, reader: &mut
     octets[8] ^= 1;
     let hex = Hex(&octets);
     println!(rt, "  write {hex} with one bit changed")?;
-    read(rt, reader, Received { octets: &octets, size })?;
-    read(rt, reader, Received { octets: &octets[0..10], size })
+    read(
+        rt,
+        reader,
+        Received {
+            octets: &octets,
+            size,
+        },
+    )?;
+    read(
+        rt,
+        reader,
+        Received {
+            octets: &octets[0..10],
+            size,
+        },
+    )
 }
 
 fn read(rt: &LibcRuntime, reader: &mut Numbers, received: Received<'_>) -> Result<(), AnyError> {
@@ -70,8 +136,14 @@ fn read(rt: &LibcRuntime, reader: &mut Numbers, received: Received<'_>) -> Resul
     let octets = data_of(body);
     let hex = Hex(&octets[0..4]);
     match reader.take(received) {
-        Some(number) => println!(rt, "  read  {name}, data {hex}, connection ID {id}, taken as number {number}")?,
-        None => println!(rt, "  read  {name}, data {hex}, connection ID {id}, wrong CRC")?,
+        Some(number) => println!(
+            rt,
+            "  read  {name}, data {hex}, connection ID {id}, taken as number {number}"
+        )?,
+        None => println!(
+            rt,
+            "  read  {name}, data {hex}, connection ID {id}, wrong CRC"
+        )?,
     }
     Ok(())
 }

@@ -1,0 +1,31 @@
+-- Points of the format that are known beforehand. Assumes nothing.
+use mathlib.Core.Path.{_≡_}
+use mathlib.Core.Bool.{false}
+use mathlib.Core.List.{List, [], _∷_}
+use Prim.Native.Nat.{ℕ}
+use Rattle.std.specs.Vec.{Every}
+use Rattle.length.specs.Lawful.{lawful, frame-octets}
+use Rattle.crc.specs.Register.{feed}
+
+pub data Point : Type 0 where
+  -- a frame of d data octets has so many octets
+  frame-has : (d octets : ℕ) → Point
+  -- a data length of d is refused
+  refused : (d : ℕ) → Point
+  -- a zero register that is fed one octet gives this
+  gives : (octet register : ℕ) → Point
+
+abbrev pub Holds : Point → Type 0
+Holds (frame-has d octets) = frame-octets d ≡ octets
+Holds (refused d) = lawful d ≡ false
+Holds (gives octet register) = feed 0 octet ≡ register
+
+abbrev pub table : List Point
+table =
+    frame-has 2 7 ∷ frame-has 32 67
+    ∷ refused 0 ∷ refused 3 ∷ refused 34
+    ∷ gives 1 0x39B7 ∷ gives 8 0xF40F
+    ∷ []
+
+abbrev pub Stands : Type 0
+Stands = Every Holds table
