@@ -32,8 +32,12 @@ fn rows(rt: LibcRuntime) -> Result<(), Fail> {
 
 #[test]
 fn device_codes() -> Result<(), Fail> {
-    check(DeviceCode::new(127).is_none())?;
-    let code = DeviceCode::new(128).ok_or("128 is refused")?;
+    if let Some(_) = DeviceCode::new(127) {
+        return Err(Fail::new("127 is a device code"));
+    }
+    let Some(code) = DeviceCode::new(128) else {
+        return Err(Fail::new("128 is refused"));
+    };
     check_eq(Fault::Device(code).number(), 128)?;
     check_eq(Fault::Device(code).layer().number(), 3)
 }
