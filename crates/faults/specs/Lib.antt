@@ -1,0 +1,5 @@
+pub mod States
+pub mod Layers
+pub mod DeviceCodes
+pub mod Faults
+pub mod Lines
