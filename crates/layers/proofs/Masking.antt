@@ -3,11 +3,11 @@ use mathlib.Core.Path.{_≡_, refl, sym, ap, subst, _∙_}
 use mathlib.Core.List.{List, [], _∷_}
 use Prim.Native.Nat.{ℕ, zero, suc, _<_, _/_, _%_, _^_}
 use native.Mathlib.Omega.{arith}
-use lib.Bits.{bitAnd, and-comm, and-zero-r}
+use lib.Bits.{bitAnd, and-zero-r}
 use lib.ListN.{getD, length}
 use lib.Seq.{ext-getD}
 use Rattle.sink.specs.Octets.{Within}
-use Rattle.sink.proofs.Lits.{lit-and}
+use Rattle.sink.proofs.Lits.{lit-and-left}
 use Rattle.layers.specs.Masked.{masked}
 
 pub getD-masked : (os ms : List ℕ) (i : ℕ) → getD (masked os ms) i 0 ≡ bitAnd (getD os i 0) (getD ms i 0)
@@ -33,5 +33,4 @@ masked-all n xs os ms e p q each =
 
 pub masked-within : (os ms : List ℕ) → Within (masked os ms) os
 masked-within os ms i k h =
-    lit-and (getD ms i 0) (getD os i 0) k
-    (subst (λ (x : ℕ). (x / 2 ^ k) % 2 ≡ 1) (getD-masked os ms i ∙ and-comm (getD os i 0) (getD ms i 0)) h)
+    lit-and-left (getD os i 0) (getD ms i 0) k (subst (λ (x : ℕ). (x / 2 ^ k) % 2 ≡ 1) (getD-masked os ms i) h)
