@@ -46,9 +46,11 @@ pub impl<S: Sink> Sink for HoldOff<S> as HoldOffSink {
         if self.count == 0 {
             return self.below.release(octets);
         }
-        self.below.release(&[0; 32])?;
-        self.count -= 1;
-        Ok(())
+        let answer = self.below.release(&[0; 32]);
+        if answer.is_ok() {
+            self.count -= 1;
+        }
+        answer
     }
 
     fn clear(&mut self) {
