@@ -16,11 +16,15 @@ pub impl Profile for HeaterProfile as HeaterProfileRules {
     ghost judged = { heater-verdict };
 
     type Octets = Exactly<3>;
+
     type Lowest = Exactly<20>;
+
     type Highest = Exactly<5000>;
 
     const USER_OCTETS: Self::Octets = Exactly;
+
     const LOWEST_WATCHDOG: Self::Lowest = Exactly;
+
     const HIGHEST_WATCHDOG: Self::Highest = Exactly;
 
     fn verdict(&self, user: &[u8]) -> Verdict {

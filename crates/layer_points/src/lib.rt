@@ -13,6 +13,7 @@ use sinks::Drive;
 use sinks::DriveSink;
 
 const FULL: [u8; 32] = [0xFF; 32];
+
 const LOW_HALF: [u8; 32] = [0x0F; 32];
 
 // A mask of 0x0F over a bank: 0xFF shows 0x0F.

@@ -24,7 +24,11 @@ impl<S: Sink> HoldOff<S> {
     pub fn into_below(self) -> S
         ensures { λ r. ⌜ r ≡ self .below ⌝ }
     {
-        let HoldOff { k: _, count: _, below } = self;
+        let HoldOff {
+            k: _,
+            count: _,
+            below,
+        } = self;
         below
     }
 }

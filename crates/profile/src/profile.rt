@@ -16,15 +16,21 @@ pub trait Profile {
 
     // The numbers as constants: the type of each fixes its value.
     type Octets: Number;
+
     type Lowest: Number;
+
     type Highest: Number;
 
     const USER_OCTETS: Self::Octets;
+
     const LOWEST_WATCHDOG: Self::Lowest;
+
     const HIGHEST_WATCHDOG: Self::Highest;
 
     law octets: { Octets·Number .num ≡ numbers .octets };
+
     law lowest: { Lowest·Number .num ≡ numbers .lowest };
+
     law highest: { Highest·Number .num ≡ numbers .highest };
 
     // They keep the ranges of a sealed plan.

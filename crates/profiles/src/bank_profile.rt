@@ -17,11 +17,15 @@ pub impl Profile for BankProfile as BankProfileRules {
     ghost judged = { bank-verdict };
 
     type Octets = Exactly<2>;
+
     type Lowest = Exactly<5>;
+
     type Highest = Exactly<10000>;
 
     const USER_OCTETS: Self::Octets = Exactly;
+
     const LOWEST_WATCHDOG: Self::Lowest = Exactly;
+
     const HIGHEST_WATCHDOG: Self::Highest = Exactly;
 
     fn verdict(&self, user: &[u8]) -> Verdict {

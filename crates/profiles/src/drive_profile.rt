@@ -17,11 +17,15 @@ pub impl Profile for DriveProfile as DriveProfileRules {
     ghost judged = { drive-verdict };
 
     type Octets = Exactly<4>;
+
     type Lowest = Exactly<2>;
+
     type Highest = Exactly<1000>;
 
     const USER_OCTETS: Self::Octets = Exactly;
+
     const LOWEST_WATCHDOG: Self::Lowest = Exactly;
+
     const HIGHEST_WATCHDOG: Self::Highest = Exactly;
 
     fn verdict(&self, user: &[u8]) -> Verdict {

@@ -27,7 +27,7 @@ dark i k h = dark-octet k (subst (λ (x : ℕ). (x / 2 ^ k) % 2 ≡ 1) (getD-zer
 pub lit-and-right : (a b k : ℕ) → (bitAnd a b / 2 ^ k) % 2 ≡ 1 → (b / 2 ^ k) % 2 ≡ 1
 lit-and-right a b k h =
     let e : (bitAnd a b / 2 ^ k) % 2 ≡ bitAnd ((a / 2 ^ k) % 2) ((b / 2 ^ k) % 2)
-        = ap (λ (x : ℕ). x % 2) (and-shr a b k) ∙ and-mod (a / 2 ^ k) (b / 2 ^ k) 1 in
+    = ap (λ (x : ℕ). x % 2) (and-shr a b k) ∙ and-mod (a / 2 ^ k) (b / 2 ^ k) 1 in
     omega (arith, e, h, and-le-r ((a / 2 ^ k) % 2) ((b / 2 ^ k) % 2))
 
 pub lit-and-left : (a b k : ℕ) → (bitAnd a b / 2 ^ k) % 2 ≡ 1 → (a / 2 ^ k) % 2 ≡ 1

@@ -14,7 +14,7 @@ abbrev pub answer : Bool → Result (Unit {0}) Refusal
 answer up = cond up (Ok tt) (Err SinkDown)
 
 pub record Effects {S : Type 0} (shown : S → List ℕ) (up : S → Bool) (would : S → List ℕ → List ℕ)
-                   (released : S → List ℕ → S) (cleared : S → S) (told : S → Bool → S) : Type 0 where
+    (released : S → List ℕ → S) (cleared : S → S) (told : S → Bool → S) : Type 0 where
   pub shown-released : (s : S) (o : List ℕ) → shown (released s o) ≡ cond (up s) (would s o) zeros
   pub up-released : (s : S) (o : List ℕ) → up (released s o) ≡ up s
   pub shown-cleared : (s : S) → shown (cleared s) ≡ zeros

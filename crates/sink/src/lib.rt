@@ -11,12 +11,16 @@ pub trait Sink {
     // The meaning of a sink: the 32 octets that it shows, whether it is up, and what it would show for any 32 octets
     // released now.
     ghost shown: { Self → List ℕ };
+
     ghost up: { Self → Bool };
+
     ghost would: { Self → List ℕ → List ℕ };
 
     // The sink that each call leaves behind.
     ghost released: { Self → List ℕ → Self };
+
     ghost cleared: { Self → Self };
+
     ghost told: { Self → Bool → Self };
 
     // What the calls do to the octets shown and to up.

@@ -30,7 +30,10 @@ impl Switches {
     fn octet(&self) -> u8
         ensures { λ r. ⌜ r ≡ octet-of (now (self .entry)) ⌝ }
     {
-        u8::from(self.first) + 2 * u8::from(self.second) + 4 * u8::from(self.third) + 8 * u8::from(self.fourth)
+        u8::from(self.first)
+            + 2 * u8::from(self.second)
+            + 4 * u8::from(self.third)
+            + 8 * u8::from(self.fourth)
     }
 }
 

@@ -4,12 +4,14 @@ ghost use Prim.Native.Nat.{_≤_};
 ghost use Rattle.profile.specs.DeviceCodes.{code};
 use super::DeviceCode;
 
+const FIRST: u8 = 128;
+
 impl DeviceCode {
     // The code of that number, or none where it is below 128.
     pub fn new(number: u8) -> Option<DeviceCode>
         ensures { λ r. ⌜ r ≡ code number ⌝ }
     {
-        if number >= 128 {
+        if number >= FIRST {
             Some(DeviceCode { number })
         } else {
             None

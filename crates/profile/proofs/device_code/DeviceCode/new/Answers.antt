@@ -16,5 +16,5 @@ built-code : (n : ℕ) (b : Bool) (e : leb 128 n ≡ b) (p : leb 128 n ≡ true)
 built-code n true e p = ap (built n) (Bool-set (leb 128 n) true p e)
 built-code n false e p = absurd (true≢false (sym p ∙ e))
 
-pub returns-then-number-ge128 : need.returns-then-number-ge128
-returns-then-number-ge128 c = let n = c .args .number in built-code n (leb 128 n) refl _
+pub returns-then-number-ge-FIRST : need.returns-then-number-ge-FIRST
+returns-then-number-ge-FIRST c = let n = c .args .number in built-code n (leb 128 n) refl _
