@@ -1,13 +1,13 @@
 -- Octets ANDed with a mask: each octet, the length, and that no bit is added.
-use mathlib.Core.Path.{_≡_, refl, sym, ap, subst, _∙_}
+use mathlib.Core.Path.{_≡_, refl, sym, ap, _∙_}
 use mathlib.Core.List.{List, [], _∷_}
-use Prim.Native.Nat.{ℕ, zero, suc, _<_, _/_, _%_, _^_}
+use Prim.Native.Nat.{ℕ, zero, suc, _<_}
 use native.Mathlib.Omega.{arith}
 use lib.Bits.{bitAnd, and-zero-r}
 use lib.ListN.{getD, length}
 use lib.Seq.{ext-getD}
 use Rattle.sink.specs.Octets.{Within}
-use Rattle.sink.proofs.Lits.{lit-and-left}
+use Rattle.sink.proofs.Lits.{lit-and-left, same-bit}
 use Rattle.layers.specs.Masked.{masked}
 
 pub getD-masked : (os ms : List ℕ) (i : ℕ) → getD (masked os ms) i 0 ≡ bitAnd (getD os i 0) (getD ms i 0)
@@ -32,5 +32,4 @@ masked-all n xs os ms e p q each =
     (λ i h. each i (omega arith) ∙ sym (getD-masked os ms i))
 
 pub masked-within : (os ms : List ℕ) → Within (masked os ms) os
-masked-within os ms i k h =
-    lit-and-left (getD os i 0) (getD ms i 0) k (subst (λ (x : ℕ). (x / 2 ^ k) % 2 ≡ 1) (getD-masked os ms i) h)
+masked-within os ms i k h = lit-and-left (getD os i 0) (getD ms i 0) k (same-bit (getD-masked os ms i) k h)

@@ -1,13 +1,13 @@
--- Lemmas on the bits that a sink shows.
-use mathlib.Core.Path.{_≡_, refl, sym, ap, subst, _∙_}
+-- Lemmas on the bits that a sink shows, for the proof of its law and for code over any sink.
+use mathlib.Core.Path.{_≡_, refl, ap, subst, _∙_}
 use mathlib.Core.Bool.{Bool, true, false, cond}
 use mathlib.Core.List.{List, _∷_}
-use Prim.Native.Nat.{ℕ, zero, suc, _/_, _%_, _^_, _<_, _≤_}
-use native.Mathlib.Omega.{arith}
-use lib.ListN.{getD, replicate}
-use lib.Bits.{bitAnd, and-comm, and-le-r, and-shr, and-mod}
+use Prim.Native.Nat.{ℕ, zero, suc, _/_, _%_, _^_}
 use native.Mathlib.Nat.{zero-div}
-use Rattle.sink.specs.Octets.{zeros, Lit, Within}
+use native.Mathlib.Omega.{arith}
+use lib.Bits.{bitAnd, and-comm, and-le-r, and-shr, and-mod}
+use lib.ListN.{getD, replicate}
+use Rattle.sink.specs.Octets.{zeros, Bit, Lit, Within}
 use Rattle.sink.specs.Lawful.{Lawful}
 use Rattle.sink.specs.declared.Sink.{Ghosts}
 
@@ -16,31 +16,37 @@ getD-zeros zero i = refl
 getD-zeros (suc n) zero = refl
 getD-zeros (suc n) (suc i) = getD-zeros n i
 
+-- equal numbers have the same bits
+pub same-bit : {a b : ℕ} → a ≡ b → (k : ℕ) → Bit a k → Bit b k
+same-bit e k = subst (λ (x : ℕ). Bit x k) e
+
 -- no bit of zero is set
-pub dark-octet : (k : ℕ) → (0 / 2 ^ k) % 2 ≡ 1 → ⊥
+pub dark-octet : (k : ℕ) → Bit 0 k → ⊥
 dark-octet k h = omega (arith, ap (λ (x : ℕ). x % 2) (zero-div (2 ^ k)), h)
 
 pub dark : (i k : ℕ) → Lit zeros i k → ⊥
-dark i k h = dark-octet k (subst (λ (x : ℕ). (x / 2 ^ k) % 2 ≡ 1) (getD-zeros 32 i) h)
+dark i k h = dark-octet k (same-bit (getD-zeros 32 i) k h)
 
 -- a bit of the conjunction is a bit of each part
-pub lit-and-right : (a b k : ℕ) → (bitAnd a b / 2 ^ k) % 2 ≡ 1 → (b / 2 ^ k) % 2 ≡ 1
+pub lit-and-right : (a b k : ℕ) → Bit (bitAnd a b) k → Bit b k
 lit-and-right a b k h =
-    let e : (bitAnd a b / 2 ^ k) % 2 ≡ bitAnd ((a / 2 ^ k) % 2) ((b / 2 ^ k) % 2)
-    = ap (λ (x : ℕ). x % 2) (and-shr a b k) ∙ and-mod (a / 2 ^ k) (b / 2 ^ k) 1 in
-    omega (arith, e, h, and-le-r ((a / 2 ^ k) % 2) ((b / 2 ^ k) % 2))
+    let x = a / 2 ^ k in
+    let y = b / 2 ^ k in
+    let e = ap (λ (n : ℕ). n % 2) (and-shr a b k) ∙ and-mod x y 1 in
+    omega (arith, e, h, and-le-r (x % 2) (y % 2))
 
-pub lit-and-left : (a b k : ℕ) → (bitAnd a b / 2 ^ k) % 2 ≡ 1 → (a / 2 ^ k) % 2 ≡ 1
-lit-and-left a b k h = lit-and-right b a k (subst (λ (x : ℕ). (x / 2 ^ k) % 2 ≡ 1) (and-comm a b) h)
+pub lit-and-left : (a b k : ℕ) → Bit (bitAnd a b) k → Bit a k
+lit-and-left a b k h = lit-and-right b a k (same-bit (and-comm a b) k h)
 
--- what one octet shows, with zeros behind it, is within the octets where its bits are
-pub first-within : (x : ℕ) (o : List ℕ) → ((k : ℕ) → (x / 2 ^ k) % 2 ≡ 1 → (getD o 0 0 / 2 ^ k) % 2 ≡ 1) → Within (x ∷ replicate 31 0) o
+-- octet 0 alone is shown, and its bits are set in the released octet 0
+pub first-within : (x : ℕ) (o : List ℕ) → ((k : ℕ) → Bit x k → Lit o 0 k) → Within (x ∷ replicate 31 0) o
 first-within x o bits zero k h = bits k h
-first-within x o bits (suc i) k h = absurd (dark-octet k (subst (λ (y : ℕ). (y / 2 ^ k) % 2 ≡ 1) (getD-zeros 31 i) h))
+first-within x o bits (suc i) k h = absurd (dark-octet k (same-bit (getD-zeros 31 i) k h))
 
 -- what a sink shows after a release is within the released octets
 pub shown-within : {S : Type 0} (m : Ghosts S) → Lawful m → (s : S) (o : List ℕ) → Within (m .shown (m .released s o)) o
-shown-within m law s o i k h = by-up (m .up s) (subst (λ (x : List ℕ). Lit x i k) (law .effects .shown-released s o) h)
+shown-within m law s o i k h =
+    by-up (m .up s) (subst (λ (x : List ℕ). Lit x i k) (law .effects .shown-released s o) h)
   where
     by-up : (u : Bool) → Lit (cond u (m .would s o) zeros) i k → Lit o i k
     by-up true l = law .within s o i k l

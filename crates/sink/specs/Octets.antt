@@ -7,9 +7,13 @@ use lib.ListN.{getD, replicate}
 abbrev pub zeros : List ℕ
 zeros = replicate 32 0
 
+-- bit k of a number is set
+abbrev pub Bit : ℕ → ℕ → Type 0
+Bit n k = (n / 2 ^ k) % 2 ≡ 1
+
 -- bit k of octet i is set
 abbrev pub Lit : List ℕ → ℕ → ℕ → Type 0
-Lit octets i k = (getD octets i 0 / 2 ^ k) % 2 ≡ 1
+Lit octets i k = Bit (getD octets i 0) k
 
 -- each bit set in the one is set in the other
 abbrev pub Within : List ℕ → List ℕ → Type 0

@@ -1,12 +1,12 @@
 -- What a drive shows is the released octet 0 ANDed with 15, so each bit of it is set in that octet.
-use mathlib.Core.Path.{_≡_, sym, subst, _∙_}
-use Prim.Native.Nat.{ℕ, _/_, _%_, _^_}
+use mathlib.Core.Path.{_≡_, sym, _∙_}
+use Prim.Native.Nat.{ℕ, _/_, _%_}
 use native.Mathlib.Omega.{arith}
 use lib.Bits.{bitAnd, and-mask}
 use lib.Dec.{eqb}
 use lib.ListN.{getD}
 use Rattle.std.proofs.shelf.Bits.{mod-pow-add}
-use Rattle.sink.proofs.Lits.{first-within, lit-and-left}
+use Rattle.sink.proofs.Lits.{first-within, lit-and-left, same-bit}
 use Rattle.sinks.specs.Drives.{bit, octet-of, switches-of}
 use Rattle.sinks.proofs.drive.DriveSink.the-impl.Needs as need
 use borrow.Author.Needs.{needs}
@@ -26,5 +26,4 @@ masked n = low-bits n ∙ sym (and-mask n 4)
 pub within-law : need.within-law
 within-law s o =
     let n = getD o 0 0 in
-    first-within (octet-of (switches-of n)) o
-    (λ k h. lit-and-left n 15 k (subst (λ (x : ℕ). (x / 2 ^ k) % 2 ≡ 1) (masked n) h))
+    first-within (octet-of (switches-of n)) o (λ k h. lit-and-left n 15 k (same-bit (masked n) k h))
