@@ -15,7 +15,7 @@ impl MaskOctets {
     fn masked(&self, octets: &[u8; 32]) -> [u8; 32]
         ensures { λ r. ⌜ r ≡ masked (now (octets .entry)) (now (self .entry) .octets) ⌝ }
     {
-        let mut out = [0; 32];
+        let mut out = [0u8; 32];
         for i in 0..32 {
             out[i] = octets[i] & self.octets[i];
         }

@@ -21,11 +21,11 @@ pub same-bit : {a b : ℕ} → a ≡ b → (k : ℕ) → Bit a k → Bit b k
 same-bit e k = subst (λ (x : ℕ). Bit x k) e
 
 -- no bit of zero is set
-pub dark-octet : (k : ℕ) → Bit 0 k → ⊥
-dark-octet k h = omega (arith, ap (λ (x : ℕ). x % 2) (zero-div (2 ^ k)), h)
+pub no-bit : (k : ℕ) → Bit 0 k → ⊥
+no-bit k h = omega (arith, ap (λ (x : ℕ). x % 2) (zero-div (2 ^ k)), h)
 
-pub dark : (i k : ℕ) → Lit zeros i k → ⊥
-dark i k h = dark-octet k (same-bit (getD-zeros 32 i) k h)
+pub none-lit : (i k : ℕ) → Lit zeros i k → ⊥
+none-lit i k h = no-bit k (same-bit (getD-zeros 32 i) k h)
 
 -- a bit of the conjunction is a bit of each part
 pub lit-and-right : (a b k : ℕ) → Bit (bitAnd a b) k → Bit b k
@@ -41,7 +41,7 @@ lit-and-left a b k h = lit-and-right b a k (same-bit (and-comm a b) k h)
 -- octet 0 alone is shown, and its bits are set in the released octet 0
 pub first-within : (x : ℕ) (o : List ℕ) → ((k : ℕ) → Bit x k → Lit o 0 k) → Within (x ∷ replicate 31 0) o
 first-within x o bits zero k h = bits k h
-first-within x o bits (suc i) k h = absurd (dark-octet k (same-bit (getD-zeros 31 i) k h))
+first-within x o bits (suc i) k h = absurd (no-bit k (same-bit (getD-zeros 31 i) k h))
 
 -- what a sink shows after a release is within the released octets
 pub shown-within : {S : Type 0} (m : Ghosts S) → Lawful m → (s : S) (o : List ℕ) → Within (m .shown (m .released s o)) o
@@ -50,4 +50,4 @@ shown-within m law s o i k h =
   where
     by-up : (u : Bool) → Lit (cond u (m .would s o) zeros) i k → Lit o i k
     by-up true l = law .within s o i k l
-    by-up false l = absurd (dark i k l)
+    by-up false l = absurd (none-lit i k l)
