@@ -4,7 +4,7 @@ use mathlib.Core.List.{List, _++_}
 use lib.Chars.{codes}
 use Rattle.std.specs.Written.{decimal}
 use Rattle.codes.specs.declared.refusal.Refusal.{Refusal}
-use Rattle.codes.specs.declared.refusal.Refusal.the-variants.{WrongFrameLength, ShortReplyBuffer, ZeroConnectionId, UnlawfulLength, ZeroWatchdog, TooManyUserOctets}
+use Rattle.codes.specs.declared.refusal.Refusal.the-variants.{WrongFrameLength, ShortReplyBuffer, ZeroConnectionId, UnlawfulLength, ZeroWatchdog, TooManyUserOctets, SinkDown}
 
 abbrev pub number : Refusal → ℕ
 number WrongFrameLength = 21
@@ -13,6 +13,7 @@ number ZeroConnectionId = 31
 number UnlawfulLength = 32
 number ZeroWatchdog = 33
 number TooManyUserOctets = 34
+number SinkDown = 41
 
 abbrev pub meaning : Refusal → List ℕ
 meaning WrongFrameLength = codes "the frame has another length than the connection's frames"
@@ -21,6 +22,7 @@ meaning ZeroConnectionId = codes "the connection ID is 0"
 meaning UnlawfulLength = codes "the data length is not an even number from 2 to 32"
 meaning ZeroWatchdog = codes "the watchdog time is 0"
 meaning TooManyUserOctets = codes "there are more than 16 user parameter octets"
+meaning SinkDown = codes "the sink is down"
 
 -- as in "31: the connection ID is 0"
 abbrev pub printed : Refusal → List ℕ

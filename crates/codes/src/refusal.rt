@@ -1,4 +1,4 @@
-// Why a call was refused. A refused call changes nothing.
+// Why a call was refused. A refused call changes nothing, but for a refused release, after which zeros are shown.
 ghost use mathlib.Core.Path.{_≡_};
 ghost use Rattle.std.specs.declared.option.Option.the-variants.{Some};
 ghost use Rattle.codes.specs.Refusals.{number, meaning, printed};
@@ -12,6 +12,7 @@ pub enum Refusal {
     UnlawfulLength,
     ZeroWatchdog,
     TooManyUserOctets,
+    SinkDown,
 }
 
 impl Refusal {
@@ -26,6 +27,7 @@ impl Refusal {
             Refusal::UnlawfulLength => 32,
             Refusal::ZeroWatchdog => 33,
             Refusal::TooManyUserOctets => 34,
+            Refusal::SinkDown => 41,
         }
     }
 
@@ -41,6 +43,7 @@ impl Refusal {
             Refusal::UnlawfulLength => "the data length is not an even number from 2 to 32",
             Refusal::ZeroWatchdog => "the watchdog time is 0",
             Refusal::TooManyUserOctets => "there are more than 16 user parameter octets",
+            Refusal::SinkDown => "the sink is down",
         }
     }
 }

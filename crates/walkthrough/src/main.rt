@@ -1,10 +1,13 @@
-// Takes the connection of one module from its first draft to its dismissal, and prints each action.
+// Takes the connection of one module from its first draft to its dismissal, tries the parts that the connection is built
+// of, and prints each action.
 mod framing;
 mod journaling;
+mod outputs;
 mod planning;
 
 use framing::exchange_frames;
 use journaling::keep_journal;
+use outputs::try_outputs;
 use planning::commission;
 use std::error::AnyError;
 
@@ -15,5 +18,6 @@ fn main(rt: LibcRuntime) -> Result<(), AnyError> {
 fn walk(rt: &LibcRuntime) -> Result<(), AnyError> {
     commission(rt)?;
     exchange_frames(rt)?;
+    try_outputs(rt)?;
     keep_journal(rt)
 }

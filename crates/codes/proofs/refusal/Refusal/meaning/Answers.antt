@@ -20,3 +20,6 @@ returns-in-ZeroWatchdog c = ap meaning (sym (c .in-ZeroWatchdog .is))
 
 pub returns-in-TooManyUserOctets : need.returns-in-TooManyUserOctets
 returns-in-TooManyUserOctets c = ap meaning (sym (c .in-TooManyUserOctets .is))
+
+pub returns-in-SinkDown : need.returns-in-SinkDown
+returns-in-SinkDown c = ap meaning (sym (c .in-SinkDown .is))

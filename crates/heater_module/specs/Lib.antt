@@ -1,0 +1,2 @@
+pub mod Heaters
+pub mod HeaterRules

@@ -1,0 +1,3 @@
+pub mod Masked
+pub mod Masks
+pub mod HoldOffs

@@ -1,0 +1,3 @@
+pub mod DeviceCodes
+pub mod Verdicts
+pub mod Numbers

@@ -1,0 +1,4 @@
+pub mod Numbers
+pub mod BankRules
+pub mod DriveRules
+pub mod Points
