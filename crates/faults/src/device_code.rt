@@ -1,10 +1,12 @@
-ghost use Prim.Native.Nat.{_≤_};
+ghost use mathlib.Core.Path.{_≡_};
+ghost use mathlib.Core.Bool.{true};
+ghost use lib.Dec.{leb};
 
 mod methods;
 
-// A code that a device's profile gives to a fault of its own. Only one from 128 to 255 can be built.
-#[derive(Clone, Copy, PartialEq, Eq)]
+// A fault code that a device gives a meaning of its own: 128 to 255.
+#[derive(Clone, Copy, Debug, PartialEq, Eq)]
 pub struct DeviceCode {
-    octet: u8,
-    ghost reserved: { 128 ≤ octet },
+    number: u8,
+    ghost own: { leb 128 number ≡ true },
 }

@@ -1,3 +1,2 @@
-pub mod DeviceCodes
 pub mod Verdicts
 pub mod Numbers

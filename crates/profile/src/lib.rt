@@ -1,10 +1,8 @@
 // The interface of a module's parameter rules: its three numbers, and its verdict on the user octets.
-mod device_code;
 mod number;
 mod profile;
 mod verdict;
 
-pub use device_code::DeviceCode;
 pub use number::Exactly;
 pub use number::ExactlyNumber;
 pub use number::Number;

@@ -1,9 +1,10 @@
 // What a profile says of the user octets.
 ghost use mathlib.Core.Path.{_≡_};
-ghost use Rattle.profile.specs.Verdicts.{number, device, Listed};
-use crate::device_code::DeviceCode;
-use crate::device_code::DeviceCodeDebug;
-use crate::device_code::DeviceCodePartialEq;
+ghost use Rattle.profile.specs.Verdicts.{number, fault, device, Listed};
+use faults::device_code::DeviceCode;
+use faults::device_code::DeviceCodeDebug;
+use faults::device_code::DeviceCodePartialEq;
+use faults::fault::Fault;
 
 #[derive(Clone, Copy, Debug, PartialEq, Eq)]
 pub enum Verdict {
@@ -20,6 +21,17 @@ impl Verdict {
         match DeviceCode::new(number) {
             Some(code) => Verdict::Device(code),
             None => Verdict::Invalid,
+        }
+    }
+
+    // The fault that the verdict is, or none where the octets are accepted.
+    pub fn fault(self) -> Option<Fault>
+        ensures { λ r. ⌜ r ≡ fault self ⌝ }
+    {
+        match self {
+            Verdict::Accepted => None,
+            Verdict::Invalid => Some(Fault::InvalidUserParameters),
+            Verdict::Device(code) => Some(Fault::Device(code)),
         }
     }
 

@@ -1,4 +1,3 @@
 pub mod Numbers
 pub mod BankRules
 pub mod DriveRules
-pub mod Points

@@ -5,9 +5,9 @@ use Prim.Native.Nat.{ℕ}
 use lib.Dec.{leb}
 use Rattle.std.specs.declared.option.Option.{Option}
 use Rattle.std.specs.declared.option.Option.the-variants.{Some, None}
-use Rattle.profile.specs.DeviceCodes.{code-by}
-use Rattle.profile.specs.declared.device_code.DeviceCode.{DeviceCode}
-use Rattle.profile.proofs.device_code.DeviceCode.new.Needs as need
+use Rattle.faults.specs.DeviceCodes.{code-by}
+use Rattle.faults.specs.declared.device_code.DeviceCode.{DeviceCode}
+use Rattle.faults.proofs.device_code.DeviceCode.new.Needs as need
 
 abbrev built : (n : ℕ) → leb 128 n ≡ true → Option DeviceCode
 built n p = Some (record { number = n; own = p })
