@@ -1,7 +1,7 @@
 // Building a data length, and what follows from one.
 ghost use mathlib.Core.Path.{_≡_};
-ghost use Prim.Native.Nat.{_/_, _%_, _≤_};
-ghost use Rattle.length.specs.Lawful.{frame-octets};
+ghost use Prim.Native.Nat.{_+_, _/_, _%_, _≤_};
+ghost use Rattle.length.specs.Lawful.{frame-octets, pieces, exchanges};
 ghost use Rattle.length.specs.Lengths.{Built};
 use crate::DataLength;
 use codes::refusal::Refusal;
@@ -40,5 +40,20 @@ impl DataLength {
         ensures high_bound { λ r. ⌜ r ≤ 16 ⌝ }
     {
         (self.octets / 2) as u16
+    }
+
+    // How many pieces of this length carry so many octets.
+    pub fn pieces(self, octets: u32) -> usize
+        ensures value { λ r. ⌜ r ≡ pieces (self .octets) octets ⌝ }
+        ensures high_bound { λ r. ⌜ r ≤ octets + 31 ⌝ }
+    {
+        (octets as usize + self.octets - 1) / self.octets
+    }
+
+    // How many exchanges bring a connection back after a reset of its master, until the slave's outputs are set.
+    pub fn exchanges(self, user_octets: u16) -> usize
+        ensures { λ r. ⌜ r ≡ exchanges (self .octets) «user_octets» ⌝ }
+    {
+        3 + self.pieces(4) + self.pieces(6 + user_octets as u32)
     }
 }

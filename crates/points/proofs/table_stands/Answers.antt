@@ -5,4 +5,5 @@ use Rattle.points.proofs.table_stands.Needs as need
 
 pub returns : need.returns
 unfolding feed shift
-returns c = (refl, (refl, (refl, (refl, (refl, (refl, (refl, (refl, (refl, (refl, (refl, tt)))))))))))
+returns c =
+    (refl, (refl, (refl, (refl, (refl, (refl, (refl, (refl, (refl, (refl, (refl, (refl, (refl, (refl, tt))))))))))))))
