@@ -4,11 +4,12 @@ use mathlib.Core.List.{List, _++_}
 use lib.Chars.{codes}
 use Rattle.std.specs.Written.{decimal}
 use Rattle.codes.specs.declared.refusal.Refusal.{Refusal}
-use Rattle.codes.specs.declared.refusal.Refusal.the-variants.{WrongFrameLength, ShortReplyBuffer, ZeroConnectionId, UnlawfulLength, ZeroWatchdog, TooManyUserOctets, SinkDown}
+use Rattle.codes.specs.declared.refusal.Refusal.the-variants.{WrongFrameLength, ShortReplyBuffer, WrongDataCount, ZeroConnectionId, UnlawfulLength, ZeroWatchdog, TooManyUserOctets, SinkDown}
 
 abbrev pub number : Refusal → ℕ
 number WrongFrameLength = 21
 number ShortReplyBuffer = 22
+number WrongDataCount = 23
 number ZeroConnectionId = 31
 number UnlawfulLength = 32
 number ZeroWatchdog = 33
@@ -18,6 +19,7 @@ number SinkDown = 41
 abbrev pub meaning : Refusal → List ℕ
 meaning WrongFrameLength = codes "the frame has another length than the connection's frames"
 meaning ShortReplyBuffer = codes "the reply buffer is shorter than a frame"
+meaning WrongDataCount = codes "the data octets are not as many as the data length says"
 meaning ZeroConnectionId = codes "the connection ID is 0"
 meaning UnlawfulLength = codes "the data length is not an even number from 2 to 32"
 meaning ZeroWatchdog = codes "the watchdog time is 0"

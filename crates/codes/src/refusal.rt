@@ -8,6 +8,7 @@ use std::fmt;
 pub enum Refusal {
     WrongFrameLength,
     ShortReplyBuffer,
+    WrongDataCount,
     ZeroConnectionId,
     UnlawfulLength,
     ZeroWatchdog,
@@ -23,6 +24,7 @@ impl Refusal {
         match self {
             Refusal::WrongFrameLength => 21,
             Refusal::ShortReplyBuffer => 22,
+            Refusal::WrongDataCount => 23,
             Refusal::ZeroConnectionId => 31,
             Refusal::UnlawfulLength => 32,
             Refusal::ZeroWatchdog => 33,
@@ -39,6 +41,7 @@ impl Refusal {
             Refusal::WrongFrameLength =>
                 "the frame has another length than the connection's frames",
             Refusal::ShortReplyBuffer => "the reply buffer is shorter than a frame",
+            Refusal::WrongDataCount => "the data octets are not as many as the data length says",
             Refusal::ZeroConnectionId => "the connection ID is 0",
             Refusal::UnlawfulLength => "the data length is not an even number from 2 to 32",
             Refusal::ZeroWatchdog => "the watchdog time is 0",

@@ -9,6 +9,9 @@ returns-in-WrongFrameLength c = ap meaning (sym (c .in-WrongFrameLength .is))
 pub returns-in-ShortReplyBuffer : need.returns-in-ShortReplyBuffer
 returns-in-ShortReplyBuffer c = ap meaning (sym (c .in-ShortReplyBuffer .is))
 
+pub returns-in-WrongDataCount : need.returns-in-WrongDataCount
+returns-in-WrongDataCount c = ap meaning (sym (c .in-WrongDataCount .is))
+
 pub returns-in-ZeroConnectionId : need.returns-in-ZeroConnectionId
 returns-in-ZeroConnectionId c = ap meaning (sym (c .in-ZeroConnectionId .is))
 

@@ -1,0 +1,2 @@
+// The slave end of a connection.
+mod record;
