@@ -1,2 +1,3 @@
 pub mod Storing
 pub mod Steps
+pub mod Matching

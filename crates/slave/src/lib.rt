@@ -1,2 +1,3 @@
 // The slave end of a connection.
 mod record;
+mod slave;

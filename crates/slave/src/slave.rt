@@ -1,0 +1,12 @@
+// A slave: its state, its own record, its sink and its profile.
+use crate::record::Record;
+use faults::state::State;
+
+mod stepping;
+
+pub struct Slave<S, P> {
+    state: State,
+    own: Record,
+    sink: S,
+    profile: P,
+}
