@@ -1,4 +1,5 @@
 // What a step of an end comes to.
+use faults::fault::Fault;
 use faults::state::State;
 use frame::outgoing::Outgoing;
 
@@ -15,5 +16,13 @@ pub enum Act {
 pub struct Step {
     pub state: State,
     pub act: Act,
+    pub reply: Outgoing,
+}
+
+// What a call of an end comes to: whether a frame was taken, the fault if any, and the frame that goes out.
+#[derive(Clone, Copy)]
+pub struct Done {
+    pub taken: bool,
+    pub fault: Option<Fault>,
     pub reply: Outgoing,
 }

@@ -2,6 +2,7 @@
 use crate::record::Record;
 use faults::state::State;
 
+mod concluding;
 mod stepping;
 
 pub struct Slave<S, P> {
