@@ -3,9 +3,7 @@ use mathlib.Core.Path.{_≡_}
 use mathlib.Core.List.{List, [], _∷_, _++_}
 use Prim.Native.Nat.{ℕ, _-_}
 use lib.ListN.{length, replicate}
-
 use Rattle.std.specs.declared.result.Result.the-variants.{Ok, Err}
-
 use Rattle.frame.specs.Commands.{octet}
 use Rattle.frame.specs.declared.command.Command.{Command}
 use Rattle.length.specs.declared.DataLength.{DataLength}

@@ -35,7 +35,7 @@ renewed r =
       block = r .block;
       stored = 0;
       watchdog = r .watchdog;
-      left = r .left
+      left = r .left;
     }
 
 -- the Reset frame of a code

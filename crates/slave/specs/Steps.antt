@@ -103,7 +103,7 @@ module _ (r : Record) (octets : List ℕ) where
         block = r .block;
         stored = 0;
         watchdog = r .watchdog;
-        left = r .left
+        left = r .left;
       }
 
   -- Reset and Session frames are judged by fresh numbers
@@ -137,7 +137,7 @@ module _ (r : Record) (octets : List ℕ) where
         block = r .block;
         stored = r .stored;
         watchdog = w;
-        left = w
+        left = w;
       }
 
   -- a data frame is taken, and answered by a data frame

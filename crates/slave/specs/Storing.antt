@@ -23,5 +23,5 @@ with-piece r l id at octets =
       block = placed (r .link .size .octets) at (r .block) octets;
       stored = at + r .link .size .octets;
       watchdog = r .watchdog;
-      left = r .left
+      left = r .left;
     }

@@ -3,6 +3,7 @@ use crate::record::Record;
 use faults::state::State;
 
 mod concluding;
+mod responding;
 mod stepping;
 
 pub struct Slave<S, P> {

@@ -14,8 +14,8 @@ use end::step::Step;
 use faults::fault::Fault;
 use faults::state::State;
 use frame::command::Command;
-use frame::received::data_of;
 use frame::received::Received;
+use frame::received::data_of;
 
 impl Record {
     // The first piece of the connection block. Its ID is kept.
@@ -35,7 +35,14 @@ impl Record {
     }
 
     // The next piece of a block of so many octets.
-    pub fn next_piece(&mut self, state: State, command: Command, total: usize, octets: &[u8], body: &[u8]) -> Result<Step, Fault>
+    pub fn next_piece(
+        &mut self,
+        state: State,
+        command: Command,
+        total: usize,
+        octets: &[u8],
+        body: &[u8],
+    ) -> Result<Step, Fault>
         requires { ⌜ total ≤ 32 ⌝ }
         ensures { λ r. ⌜ Comes (next-piece (now (self .entry)) (now (octets .entry)) state command total (padded (now (body .entry)))) (now (self .entry)) r (now (self .exit)) ⌝ }
     {
@@ -123,7 +130,13 @@ impl Record {
     }
 
     // The first data frame, for a profile with these numbers and this verdict on the user octets.
-    pub fn first_data(&mut self, octets: &[u8], act: Act, limits: Limits, verdict: Option<Fault>) -> Result<Step, Fault>
+    pub fn first_data(
+        &mut self,
+        octets: &[u8],
+        act: Act,
+        limits: Limits,
+        verdict: Option<Fault>,
+    ) -> Result<Step, Fault>
         ensures { λ r. ⌜ Comes (first-data (now (self .entry)) (now (octets .entry)) limits verdict act) (now (self .entry)) r (now (self .exit)) ⌝ }
     {
         match self.parameter_fault(octets, limits, verdict) {
@@ -133,7 +146,12 @@ impl Record {
     }
 
     // What is wrong with the parameter block.
-    fn parameter_fault(&self, octets: &[u8], limits: Limits, verdict: Option<Fault>) -> Option<Fault>
+    fn parameter_fault(
+        &self,
+        octets: &[u8],
+        limits: Limits,
+        verdict: Option<Fault>,
+    ) -> Option<Fault>
         ensures { λ r. ⌜ r ≡ parameter-fault (now (self .entry)) (now (octets .entry)) limits verdict ⌝ }
     {
         let watchdog = self.number_at(2);

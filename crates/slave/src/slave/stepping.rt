@@ -10,8 +10,8 @@ use end::step::Step;
 use faults::fault::Fault;
 use faults::state::State;
 use frame::command::Command;
-use frame::received::data_of;
 use frame::received::Frame;
+use frame::received::data_of;
 use profile::Number;
 use profile::Profile;
 
@@ -51,11 +51,17 @@ impl<S, P: Profile> Slave<S, P> {
         ensures rest { λ r. ⌜ now (self .exit) ≡ with-record (now (self .entry)) (now (self .exit) .own) ⌝ }
     {
         let total = 6 + P::USER_OCTETS.get() as usize;
-        self.own.next_piece(State::Parameter, Command::Parameter, total, octets, body)
+        self.own
+            .next_piece(State::Parameter, Command::Parameter, total, octets, body)
     }
 
     // The step by the slave's state and the kind of the frame.
-    fn step(&mut self, frame: Frame<'_>, octets: &[u8], session: u16) -> Result<Step, Fault>
+    pub(super) fn step(
+        &mut self,
+        frame: Frame<'_>,
+        octets: &[u8],
+        session: u16,
+    ) -> Result<Step, Fault>
         requires { ⌜ Reads (now self .own) (now octets) frame ⌝ }
         ensures step { λ r. ⌜ Steps P·Profile (now (self .entry)) (now (octets .entry)) session r (now (self .exit) .own) ⌝ }
         ensures rest { λ r. ⌜ now (self .exit) ≡ with-record (now (self .entry)) (now (self .exit) .own) ⌝ }
@@ -65,18 +71,31 @@ impl<S, P: Profile> Slave<S, P> {
             (_, Frame::Session(_)) => self.own.take_session(octets, session),
             (State::Session, Frame::Connection(body)) => self.own.first_connection(octets, body),
             (State::Connection, Frame::Connection(body)) => {
-                self.own.next_piece(State::Connection, Command::Connection, 4, octets, body)
+                self.own
+                    .next_piece(State::Connection, Command::Connection, 4, octets, body)
             }
             (State::Connection, Frame::Parameter(body)) => self.own.first_parameter(octets, body),
             (State::Parameter, Frame::Parameter(body)) => self.next_parameter(octets, body),
-            (State::Parameter, Frame::ProcessData(body)) => self.first_data(octets, Act::Release(data_of(body))),
+            (State::Parameter, Frame::ProcessData(body)) => self.first_data(
+                octets,
+                Act::Release(data_of(body)),
+            ),
             (State::Parameter, Frame::FailSafeData(_)) => self.first_data(octets, Act::Clear),
-            (State::Data, Frame::ProcessData(body)) => self.own.next_data(octets, Act::Release(data_of(body))),
+            (State::Data, Frame::ProcessData(body)) => self.own
+                .next_data(octets, Act::Release(data_of(body))),
             (State::Data, Frame::FailSafeData(_)) => self.own.next_data(octets, Act::Clear),
-            (State::Reset | State::Parameter | State::Data, Frame::Connection(_)) => Err(Fault::InvalidCommand),
-            (State::Reset | State::Session | State::Data, Frame::Parameter(_)) => Err(Fault::InvalidCommand),
-            (State::Reset | State::Session | State::Connection, Frame::ProcessData(_)) => Err(Fault::InvalidCommand),
-            (State::Reset | State::Session | State::Connection, Frame::FailSafeData(_)) => Err(Fault::InvalidCommand),
+            (State::Reset | State::Parameter | State::Data, Frame::Connection(_)) => Err(
+                Fault::InvalidCommand,
+            ),
+            (State::Reset | State::Session | State::Data, Frame::Parameter(_)) => Err(
+                Fault::InvalidCommand,
+            ),
+            (State::Reset | State::Session | State::Connection, Frame::ProcessData(_)) => Err(
+                Fault::InvalidCommand,
+            ),
+            (State::Reset | State::Session | State::Connection, Frame::FailSafeData(_)) => Err(
+                Fault::InvalidCommand,
+            ),
             (_, Frame::Unknown) => Err(Fault::UnknownCommand),
         }
     }

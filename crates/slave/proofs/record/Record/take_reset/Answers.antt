@@ -12,6 +12,9 @@ pub returns : need.returns
 returns c =
     let right = c .in-Some .ensures tt .0 in
     let same = c .freshen .ensures in
-    rw right (refl, refl,
-    subst (λ l. Written fresh (l .size) 0 (octet Reset) (coded 0) (c .reset-frame .result)) same (c .reset-frame .ensures),
-    ap (restarted (c .args .self .now) (c .args .octets .now)) same)
+    rw right (
+      refl,
+      refl,
+      subst (λ l. Written fresh (l .size) 0 (octet Reset) (coded 0) (c .reset-frame .result)) same (c .reset-frame .ensures),
+      ap (restarted (c .args .self .now) (c .args .octets .now)) same,
+    )

@@ -22,11 +22,13 @@ returns c =
     let right = c .in-Some .ensures tt .0 in
     let same = c .in-Some .ensures tt .1 in
     let octets = c .numbered .ensures in
-    chosen _ _ (fault InvalidCrc) (c .args .self .now) _ _ right
-    (refl, refl,
-    subst (λ l. Written (l .numbers) (l .size) 0 (octet Session) (numbered (c .args .session)) (c .write-reply .result)) same
-    (subst (λ o. Written (c .in-Some .link .numbers) (c .in-Some .link .size) 0 (octet Session) o (c .write-reply .result)) octets (c .write-reply .ensures .frame)),
-    ap (restarted (c .args .self .now) (c .args .octets .now))
-    (c .write-reply .ensures .link
-    ∙ ap (after-writing (c .in-Some .link) 0 Session) octets
-    ∙ ap (λ l. after-writing l 0 Session (numbered (c .args .session))) same))
+    chosen _ _ (fault InvalidCrc) (c .args .self .now) _ _ right (
+      refl,
+      refl,
+      subst (λ l. Written (l .numbers) (l .size) 0 (octet Session) (numbered (c .args .session)) (c .write-reply .result)) same
+          (subst (λ o. Written (c .in-Some .link .numbers) (c .in-Some .link .size) 0 (octet Session) o (c .write-reply .result)) octets (c .write-reply .ensures .frame)),
+      ap (restarted (c .args .self .now) (c .args .octets .now))
+          (c .write-reply .ensures .link
+          ∙ ap (after-writing (c .in-Some .link) 0 Session) octets
+          ∙ ap (λ l. after-writing l 0 Session (numbered (c .args .session))) same),
+    )
