@@ -1,2 +1,2 @@
-// The numbers that a user of the library sees.
+// The numbers by which calls are refused.
 pub mod refusal;

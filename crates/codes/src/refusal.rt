@@ -17,7 +17,7 @@ pub enum Refusal {
 }
 
 impl Refusal {
-    // The number by which the documents list the refusal.
+    // The number that docs/refusals.md lists.
     pub fn number(self) -> u16
         ensures { λ r. ⌜ r ≡ number self ⌝ }
     {

@@ -3,12 +3,11 @@
 mod framing;
 mod journaling;
 mod outputs;
-mod planning;
 
+use commissioning::commission;
 use framing::exchange_frames;
 use journaling::keep_journal;
 use outputs::try_outputs;
-use planning::commission;
 use std::error::AnyError;
 
 fn main(rt: LibcRuntime) -> Result<(), AnyError> {

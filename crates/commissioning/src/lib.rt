@@ -1,5 +1,5 @@
 // The commissioning engineer drafts the plan of one module, meets each refusal, corrects the draft and seals it.
-// The plan then makes its master, and the dismissed master gives it back.
+// The plan then makes its master, and the dismissed master gives it back. Each action is printed.
 use codes::refusal::Refusal;
 use codes::refusal::RefusalDisplay;
 use length::DataLength;
