@@ -1,2 +1,4 @@
 // The numbers by which calls are refused.
+#![tactic(auto)]
+
 pub mod refusal;

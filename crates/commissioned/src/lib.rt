@@ -1,5 +1,7 @@
 // The commissioning engineer drafts the plan of one module, meets each refusal, corrects the draft and seals it.
 // The plan then makes its one master, and the dismissed master gives it back. Each action is printed.
+#![tactic(auto)]
+
 use anyhow::anyhow;
 use codes::refusal::Refusal;
 use length::DataLength;

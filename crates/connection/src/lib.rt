@@ -1,4 +1,6 @@
 // A master and a slave that exchange frames, and how they come back after a reset of the master.
+#![tactic(auto)]
+
 mod exchanging;
 mod recovery;
 

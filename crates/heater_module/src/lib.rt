@@ -1,4 +1,6 @@
 // A module that the library does not know: the heaters of a deck oven. It stands on the interfaces alone.
+#![tactic(auto)]
+
 mod heater_profile;
 mod heater_stage;
 

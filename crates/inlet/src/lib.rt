@@ -1,4 +1,6 @@
 // What a slave keeps of the blocks that come in, and the steps that it makes of frames.
+#![tactic(auto)]
+
 mod steps;
 mod storing;
 

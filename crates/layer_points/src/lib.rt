@@ -1,4 +1,6 @@
 // Points of the layers over the named sinks. What each stack shows is proved as an equation, and then run.
+#![tactic(auto)]
+
 ghost use Rattle.std.specs.Prelude.{◌≡◌, ◌∷◌, replicate};
 
 use layers::{HoldOff, Mask};

@@ -1,4 +1,6 @@
 // Layers: each holds any sink by value, and is a sink again.
+#![tactic(auto)]
+
 mod hold_off;
 mod mask;
 

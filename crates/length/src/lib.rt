@@ -1,4 +1,6 @@
 // How many data octets the frames of a connection carry.
+#![tactic(auto)]
+
 ghost use Rattle.std.specs.Prelude.{◌≡◌, true};
 ghost use Rattle.length.specs.Lawful.{lawful};
 

@@ -4,7 +4,7 @@ use connection::{bring_back, exchanges_needed};
 use faults::fault::Fault;
 use faults::line::Line;
 use faults::state::State;
-use hex::Hex;
+use hexadecimal::Hex;
 use journal::Journal;
 use master_end::Master;
 use profiles::BankProfile;

@@ -1,7 +1,7 @@
 // The ends of the walkthrough, and what is printed of them.
 use connection::exchange;
 use faults::line::Line;
-use hex::Hex;
+use hexadecimal::Hex;
 use journal::Journal;
 use master_end::Master;
 use profiles::BankProfile;

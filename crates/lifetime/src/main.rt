@@ -1,6 +1,8 @@
 // Takes the connection of one module through its life: its output stage is tried out, its plan is drafted and sealed, the two
 // ends are made and brought up exchange by exchange, the cable is pulled, the connection comes back, the journals are
 // read, and the ends are dismissed. Each action is printed.
+#![tactic(auto)]
+
 mod connecting;
 mod ends;
 mod outputs;

@@ -1,4 +1,6 @@
 // The master end of a connection. As yet it only holds the plan that it was made from.
+#![tactic(auto)]
+
 ghost use Rattle.std.specs.Prelude.{◌≡◌};
 
 use plan::{Draft, SealedPlan};

@@ -1,4 +1,6 @@
 // What a master keeps of the blocks that it sends, apart from its plan, and the steps that it makes of frames.
+#![tactic(auto)]
+
 use crate::user::UserOctets;
 
 pub mod blocks;

@@ -1,4 +1,6 @@
 // The plan of a connection: drafted freely, sealed within its ranges, used once.
+#![tactic(auto)]
+
 mod draft;
 mod sealed_plan;
 #[cfg(test)]

@@ -1,4 +1,6 @@
 // The named parameter rules: those of the bank and those of the drive.
+#![tactic(auto)]
+
 mod bank_profile;
 mod drive_profile;
 mod numbers;

@@ -1,4 +1,6 @@
 // What the master end and the slave end have in common.
+#![tactic(auto)]
+
 pub mod answer;
 pub mod data_command;
 pub mod endpoint;

@@ -1,4 +1,6 @@
 // The interface of an output stage: what it shows, whether it is up, and what each call makes of it.
+#![tactic(auto)]
+
 ghost use Rattle.std.specs.Prelude.{◌≡◌, ℕ, Bool, List};
 ghost use Rattle.sink.specs.Octets.{Within};
 ghost use Rattle.sink.specs.Effects.{Effects, answer};

@@ -1,4 +1,6 @@
 // The named output stages: the bank and the drive.
+#![tactic(auto)]
+
 mod bank;
 mod drive;
 

@@ -1,3 +1,5 @@
 // The slave end of a connection.
+#![tactic(auto)]
+
 mod record;
 mod slave;

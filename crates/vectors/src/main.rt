@@ -1,4 +1,6 @@
 // Holds the CRC and the frames to vectors that were not made by this library.
+#![tactic(auto)]
+
 mod frames;
 mod tables;
 

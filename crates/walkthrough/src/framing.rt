@@ -3,7 +3,7 @@ use anyhow::anyhow;
 use chain::numbers::Numbers;
 use frame::command::Command;
 use frame::received::{Frame, Received, data_of};
-use hex::Hex;
+use hexadecimal::Hex;
 use length::DataLength;
 
 const ID: u16 = 4660;

@@ -1,5 +1,7 @@
 // Takes the connection of one module from its first draft to its dismissal, tries the parts that the connection is built
 // of, and prints each action.
+#![tactic(auto)]
+
 mod framing;
 mod journaling;
 mod outputs;

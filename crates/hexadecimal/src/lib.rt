@@ -1,4 +1,6 @@
 // Octets as text.
+#![tactic(auto)]
+
 use std::fmt;
 
 // Octets in lower-case hexadecimal, two digits each, with nothing between them.
