@@ -6,7 +6,7 @@ pub returns : goal.returns
 returns c =
     record {
       value = search rules;
-      one-to-one =
+      one_to_one =
           only_number c.args.i c.args.last c.args.id c.args.number c.args.command c.args.first
           c.args.second (omega arith) (omega arith) (omega arith) (omega arith) (omega arith) (omega arith)
           (omega arith);

@@ -7,7 +7,7 @@ use Rattle.crc.proofs.register.Register.feed.Goals as goal
 pub returns : goal.returns
 unfolding feed
 returns c =
-    let eight : c.loop-i.-i ≡ 8 = omega arith in
+    let eight : c.loop-i._i ≡ 8 = omega arith in
     let whole : c.args.octet * 256 % 65536 ≡ c.args.octet * 256 = omega arith in
     c.loop-i.invariant
     ∙ ap (λ k. shifts k (bit_xor c.args.self.bits (c.args.octet * 256 % 65536))) eight

@@ -4,4 +4,4 @@ use Rattle.crc.proofs.register.Register.feed.Given as goal
 
 -- the register was shifted once for each turn so far
 abbrev pub invariant-loop-i : goal.invariant-loop-i
-invariant-loop-i l = l.bits ≡ shifts l.-i l.initial.bits
+invariant-loop-i l = l.bits ≡ shifts l._i l.initial.bits
