@@ -51,7 +51,7 @@ fn choose_length(rt: &HostRuntime) -> anyhow::Result<DataLength> {
             println!(rt; "ask for 4 data octets: granted")?;
             Ok(length)
         }
-        Err(refusal) => Err(refusal.meaning().into()),
+        Err(refusal) => Err(anyhow!(refusal.meaning())),
     }
 }
 
@@ -74,7 +74,7 @@ fn seal_corrected(rt: &HostRuntime, draft: Draft) -> anyhow::Result<SealedPlan> 
             println!(rt; "sealed plan: {plan}")?;
             Ok(plan)
         }
-        Err(unsealed) => Err(unsealed.refusal.meaning().into()),
+        Err(unsealed) => Err(anyhow!(unsealed.refusal.meaning())),
     }
 }
 

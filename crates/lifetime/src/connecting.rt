@@ -130,7 +130,7 @@ fn recover(
             println!(rt; "  the outputs show {outputs}")?;
             tell(rt, master, slave)
         }
-        Err(refusal) => Err(refusal.meaning().into()),
+        Err(refusal) => Err(anyhow!(refusal.meaning())),
     }
 }
 
@@ -150,7 +150,7 @@ fn damage(
                 println!(rt; "  {line}")?;
             }
         }
-        Err(refusal) => return Err(refusal.meaning().into()),
+        Err(refusal) => return Err(anyhow!(refusal.meaning())),
     }
     let shown = slave.shows();
     let outputs = Hex(&shown[0..4]);

@@ -41,7 +41,7 @@ pub fn step(
             tell(rt, master, slave)?;
             Ok(next)
         }
-        Err(refusal) => Err(refusal.meaning().into()),
+        Err(refusal) => Err(anyhow!(refusal.meaning())),
     }
 }
 

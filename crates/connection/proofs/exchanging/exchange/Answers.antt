@@ -9,8 +9,8 @@ use Rattle.connection.proofs.exchanging.exchange.Goals as goal
 part : (count : ℕ) (size size' : DataLength) → count ≡ frame_octets size'.octets → size' ≡ size → count - 0 ≡ frame_octets size.octets
 part count size size' e same = let whole : count - 0 ≡ count = omega arith in whole ∙ e ∙ ap (λ s. frame_octets s.octets) same
 
-pub returns-in-err-frame-2 : goal.returns-in-err-frame-2
-returns-in-err-frame-2 g c =
+pub returns-in_err-frame-2 : goal.returns-in_err-frame-2
+returns-in_err-frame-2 g c =
     let e = c.args.master.now in
     let latest = c.args.latest in
     let reply = c.frame.new.reply in
@@ -19,10 +19,10 @@ returns-in-err-frame-2 g c =
     let all : length latest ≡ 67 = search rules in
     absurd (accepted g.S.Sink g.T.Sink g.P.Profile e c.frame-2.new.self c.args.slave.now c.frame.new.self latest reply
     (take (count - 0) latest) (ap (λ k. take k latest) count_is) all
-    c.args.sessions (replicate 67 0) c.args.slave_journal.now c.frame.new.journal c.in-ok-frame.field-0 c.in-ok-frame.ensures
+    c.args.sessions (replicate 67 0) c.args.slave_journal.now c.frame.new.journal c.in_ok-frame.field-0 c.in_ok-frame.ensures
     (take (count - 0) reply) (ap (λ k. take k reply) count_is)
     c.frame-2.new.reply c.args.master_journal.now c.frame-2.new.journal (omega arith)
-    c.in-err-frame-2.field-0.0 c.in-err-frame-2.ensures)
+    c.in_err-frame-2.field-0.0 c.in_err-frame-2.ensures)
 
 pub returns : goal.returns
 returns g c =
@@ -34,7 +34,7 @@ returns g c =
     let all : length latest ≡ 67 = search rules in
     made g.S.Sink g.T.Sink g.P.Profile e c.frame-2.new.self c.args.slave.now c.frame.new.self latest reply
     (take (count - 0) latest) (ap (λ k. take k latest) count_is) all
-    c.args.sessions (replicate 67 0) c.args.slave_journal.now c.frame.new.journal c.in-ok-frame.field-0 c.in-ok-frame.ensures
+    c.args.sessions (replicate 67 0) c.args.slave_journal.now c.frame.new.journal c.in_ok-frame.field-0 c.in_ok-frame.ensures
     (take (count - 0) reply) (ap (λ k. take k reply) count_is)
-    c.frame-2.new.reply c.args.master_journal.now c.frame-2.new.journal c.in-ok-frame-2.field-0
-    c.in-ok-frame-2.ensures
+    c.frame-2.new.reply c.args.master_journal.now c.frame-2.new.journal c.in_ok-frame-2.field-0
+    c.in_ok-frame-2.ensures

@@ -13,9 +13,9 @@ returns g c =
       brought g.S.Sink g.T.Sink g.P.Profile e f octets
           (record { effects = g.met.T.Sink.effects; within = g.met.T.Sink.within })
           c.reset.new.self c.exchange.new.master c.set.new.self c.repeat.new.master c.exchange.new.slave c.repeat.new.slave
-          (replicate 67 0) c.reset.new.reply c.in-ok-second.second c.in-ok-repeat.field-0 c.shows.result
+          (replicate 67 0) c.reset.new.reply c.in_ok-second.second c.in_ok-repeat.field-0 c.shows.result
           c.args.sessions c.args.master_journal.now c.reset.new.journal c.reset.new.journal c.exchange.new.master_journal
-          c.args.slave_journal.now c.exchange.new.slave_journal c.in-ok-reset.field-0 c.exchanges-needed-count.result
-          c.in-ok-reset.ensures c.in-ok-second.ensures c.in-ok-set.ensures c.in-ok-repeat.ensures
-          c.exchanges-needed-count.ensures.count c.shows.ensures.value,
+          c.args.slave_journal.now c.exchange.new.slave_journal c.in_ok-reset.field-0 c.exchanges_needed-count.result
+          c.in_ok-reset.ensures c.in_ok-second.ensures c.in_ok-set.ensures c.in_ok-repeat.ensures
+          c.exchanges_needed-count.ensures.count c.shows.ensures.value,
     )

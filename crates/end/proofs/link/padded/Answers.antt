@@ -7,5 +7,5 @@ use Rattle.end.proofs.link.padded.Goals as goal
 pub returns : goal.returns
 returns c =
     let n : ℕ = length c.args.octets.now in
-    ap (λ front. front ++ post_of 0 (n - 0) (replicate 32 0)) c.copy-from-slice.ensures.after
+    ap (λ front. front ++ post_of 0 (n - 0) (replicate 32 0)) c.copy_from_slice.ensures.after
     ∙ ap (λ back. c.args.octets.now ++ back) (Post-is 0 n (replicate 32 0) (omega arith) ∙ drop-replicate n 32 0)

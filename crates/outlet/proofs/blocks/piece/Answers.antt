@@ -12,6 +12,6 @@ returns c =
     let from : ℕ = c.min-from.result in
     let block = c.args.block.now in
     let all : from + d - from ≡ d = omega arith in
-    ap (λ front. front ++ post_of 0 (d - 0) (replicate 32 0)) (c.copy-from-slice.ensures.after ∙ ap (λ k. take k (drop from block)) all)
+    ap (λ front. front ++ post_of 0 (d - 0) (replicate 32 0)) (c.copy_from_slice.ensures.after ∙ ap (λ k. take k (drop from block)) all)
     ∙ ap (λ back. take d (drop from block) ++ back) (Post-is 0 d (replicate 32 0) (omega arith) ∙ drop-replicate d 32 0)
     ∙ (λ i. take (c.octets-d.ensures.value i) (drop (c.min-from.ensures i) block) ++ replicate (32 - c.octets-d.ensures.value i) 0)

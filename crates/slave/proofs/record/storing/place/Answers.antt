@@ -9,6 +9,6 @@ returns c =
     let at : ℕ = c.args.at in
     let all : n - 0 ≡ n = omega arith in
     ap (λ ys. take at c.args.block ++ (ys ++ post_of at (at + n - at) c.args.block))
-    (c.copy-from-slice.ensures.after ∙ ap (λ m. take m c.args.piece.now) all)
+    (c.copy_from_slice.ensures.after ∙ ap (λ m. take m c.args.piece.now) all)
     ∙ ap (λ back. take at c.args.block ++ (take n c.args.piece.now ++ back)) (Post-is at (at + n) c.args.block (omega arith))
     ∙ ap (λ m. take at c.args.block ++ (take m c.args.piece.now ++ drop (at + m) c.args.block)) c.octets-d.ensures.value

@@ -4,5 +4,5 @@ use Rattle.slave_end.proofs.slave.Slave.run.Goals as goal
 pub returns : goal.returns
 returns g c =
     whole g.S.Sink (record { effects = g.met.S.Sink.effects; within = g.met.S.Sink.within }) g.P.Profile g.met.P.Profile.ranges
-    c.args.size c.args.address c.args.sink c.args.profile c.args.calls.now c.args.journal.now c.new_slave.result
-    c.make-all.new.end c.make-all.new.journal c.new_slave.ensures c.make-all.ensures
+    c.args.size c.args.address c.args.sink c.args.profile c.args.calls.now c.args.journal.now c.new-slave.result
+    c.make_all.new.end c.make_all.new.journal c.new-slave.ensures c.make_all.ensures

@@ -20,9 +20,9 @@ returns-in-Reset g c = record {
 
 pub returns-in-ReadOut : goal.returns-in-ReadOut
 returns-in-ReadOut g c = record {
-  event = event.read_out c.read-out.result;
+  event = event.read_out c.read_out.result;
   asked_is = sym (ap request c.in-ReadOut.is);
-  did = (refl, c.read-out.ensures);
+  did = (refl, c.read_out.ensures);
 }
 
 pub returns-in-Feedback : goal.returns-in-Feedback
