@@ -15,6 +15,6 @@ returns c =
     rw right (
       refl,
       refl,
-      subst (λ l. Written fresh l.size 0 (octet Reset) (coded 0) c.reset-frame.result) same c.reset-frame.ensures,
+      subst (λ l. Written fresh l.size 0 (octet Reset) (coded 0) c.reset_frame.result) same c.reset_frame.ensures,
       ap (restarted c.args.self.now c.args.octets.now) same,
     )
