@@ -1,11 +1,10 @@
 -- Two ends in step stay in step. Assumes nothing.
-use Rattle.std.proofs.Common.{◌≡◌, ℕ, ◌+◌, ◌%◌, ◌<◌, ◌≤◌, Bool, true, false, cond, ◌&&◌, List, get_or, Some, None, sym, refl, ap, ◌∙◌, subst, arith}
-use Rattle.crc.specs.Crc.{shared, crc}
-use Rattle.frame.specs.Layout.{frame}
+use Rattle.std.proofs.Common.{◌≡◌, ℕ, ◌%◌, ◌≤◌, true, cond, List, get_or, Some, None, sym, ap, ◌∙◌, subst}
+use Rattle.crc.specs.Crc.{shared}
 use Rattle.frame.specs.Reading.{command_octet, first_octet, second_octet, id, right}
 use Rattle.frame.proofs.RoundTrip.{frame_command, frame_id, frame_first, frame_second, frame_right}
 use Rattle.chain.specs.declared.numbers.Numbers.{Numbers}
-use Rattle.chain.specs.Numbers.{next, used, sent_number, sent_crc, sent, after_sending, read_number, read_crc, is_right, taken, after_taking}
+use Rattle.chain.specs.Numbers.{next, sent_number, sent_crc, sent, after_sending, read_number, read_crc, is_right, after_taking}
 use Rattle.chain.specs.Chain.{InStep, Follows}
 
 module _ (x y : Numbers) (s : InStep x y) (d i command : ℕ) (o : List ℕ) (low : 2 ≤ d) (even : d % 2 ≡ 0) where

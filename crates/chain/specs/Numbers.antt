@@ -1,5 +1,5 @@
 -- The numbers that chain frames: which one a frame goes with, and what is kept of it. Assumes nothing.
-use Rattle.std.specs.Prelude.{◌≡◌, ℕ, ◌+◌, Bool, cond, not, ◌&&◌, ◌||◌, List, Some, None, Option, ◌==◌, slice_index}
+use Rattle.std.specs.Prelude.{ℕ, ◌+◌, Bool, cond, not, ◌&&◌, ◌||◌, List, Some, None, Option, ◌==◌, slice_index}
 use Rattle.crc.specs.Crc.{shared, crc}
 use Rattle.frame.specs.Commands.{octet}
 use Rattle.frame.specs.declared.command.Command.TheVariants.{Reset, Session}

@@ -1,5 +1,5 @@
 -- With all else fixed, the map from a sequence number to a CRC is one to one. Assumes nothing.
-use Rattle.std.proofs.Common.{◌≡◌, ℕ, ◌+◌, ◌*◌, ◌/◌, ◌%◌, ◌<◌, Bool, true, false, cond, eqb, List, [], ◌∷◌, ◌++◌, sym, refl, ap, ◌∙◌, arith}
+use Rattle.std.proofs.Common.{◌≡◌, ℕ, ◌+◌, ◌*◌, ◌/◌, ◌%◌, ◌<◌, true, false, cond, eqb, List, [], ◌∷◌, ◌++◌, sym, ap, ◌∙◌, arith}
 use lib.Bits.{bit_xor, xor_assoc, xor_comm, xor_lt, xor_shifted}
 use Rattle.crc.specs.Register.{shifts, feed, fed, low_high}
 use Rattle.crc.specs.Crc.{shared, index, part_crc, OnlyNumber}

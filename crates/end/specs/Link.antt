@@ -1,5 +1,5 @@
 -- What an end keeps of its connection, and what is written from it. Assumes nothing.
-use Rattle.std.specs.Prelude.{◌≡◌, ℕ, ◌-◌, List, [], ◌∷◌, ◌++◌, length, replicate, Ok, Err, Result, ◌≢◌}
+use Rattle.std.specs.Prelude.{◌≡◌, ℕ, ◌-◌, List, ◌∷◌, ◌++◌, length, replicate, Ok, Err, Result, ◌≢◌}
 use Rattle.frame.specs.Commands.{octet}
 use Rattle.frame.specs.declared.command.Command.{Command}
 use Rattle.length.specs.declared.DataLength.{DataLength}

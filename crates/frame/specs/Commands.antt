@@ -1,5 +1,5 @@
 -- The commands of the six kinds of frame. Assumes nothing.
-use Rattle.std.specs.Prelude.{ℕ, Bool, true, false, cond, Some, None, Option, ◌==◌}
+use Rattle.std.specs.Prelude.{ℕ, cond, Some, None, Option, ◌==◌}
 use Rattle.frame.specs.declared.command.Command.{Command}
 use Rattle.frame.specs.declared.command.Command.TheVariants.{Reset, Session, Connection, Parameter, ProcessData, FailSafeData}
 

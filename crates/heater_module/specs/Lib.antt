@@ -1,3 +1,3 @@
 pub mod Heaters
 pub mod HeaterRules
-pub mod HeaterStageSinkLemmas
+pub mod Interlocking

@@ -3,7 +3,7 @@
 ghost use Rattle.std.specs.Prelude.{◌≡◌, get_or, leb};
 ghost use Rattle.heater_module.specs.Heaters.{interlocked, octets_of, new_stage, stage_released, stage_cleared, stage_told};
 ghost use Rattle.sink.proofs.Lits.{first_within};
-ghost use Rattle.heater_module.specs.HeaterStageSinkLemmas.{within_octet};
+ghost use Rattle.heater_module.specs.Interlocking.{within_octet};
 ghost use Rattle.std.proofs.Common.{rules};
 
 use codes::refusal::Refusal;

@@ -1,5 +1,5 @@
 pub mod Masked
 pub mod Masks
 pub mod HoldOffs
-pub mod HoldOffSinkLemmas
 pub mod Masking
+pub mod HoldingOff

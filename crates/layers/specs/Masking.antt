@@ -1,4 +1,4 @@
--- Octets ANDed with a mask: each octet, the length, and that no bit is added.
+-- Lemmas of the law of the mask. Octets ANDed with it: each octet, the length, and that no bit is added. Assumes nothing.
 use Rattle.std.specs.Prelude.{◌≡◌, refl, List, [], ◌∷◌, ℕ, zero, suc, ◌<◌, get_or, length}
 use Rattle.std.proofs.Common.{sym, ap, ◌∙◌, arith, ext_get_or}
 use Rattle.std.specs.Int.Bits.{bit_and, and_zero_r}

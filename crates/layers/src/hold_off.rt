@@ -1,7 +1,7 @@
 // The hold-off layer: after its making, a clear or a down feedback it passes zeros down for its first k accepted releases.
 ghost use Rattle.std.specs.Prelude.{◌≡◌, eqb};
 ghost use Rattle.layers.specs.HoldOffs.{passed, hold_off_over, hold_off_released, hold_off_cleared, hold_off_told};
-ghost use Rattle.layers.specs.HoldOffSinkLemmas.{either_within};
+ghost use Rattle.layers.specs.HoldingOff.{either_within};
 ghost use Rattle.std.proofs.Common.{rules};
 
 use codes::refusal::Refusal;

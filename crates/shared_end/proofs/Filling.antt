@@ -1,5 +1,5 @@
 -- The octets of a frame that goes out, and the buffer that they fill. Assumes nothing.
-use Rattle.std.proofs.Common.{◌≡◌, ℕ, List, ◌++◌, length, take, drop, replicate, Some, sym, ap, ◌∙◌, eqb-true}
+use Rattle.std.proofs.Common.{◌≡◌, ℕ, List, ◌++◌, length, take, drop, Some, ap, ◌∙◌, eqb-true}
 use Rattle.std.proofs.lemmas.List.{take_at}
 use Rattle.length.specs.Lawful.{frame_octets}
 use Rattle.length.specs.declared.DataLength.{DataLength}

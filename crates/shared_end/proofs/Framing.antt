@@ -1,5 +1,5 @@
 -- A step and what was answered come to the outcome. Assumes nothing.
-use Rattle.std.proofs.Common.{◌≡◌, ℕ, ◌≤◌, List, length, Some, Ok, Err, Result, sym, refl, ap, ◌∙◌, subst}
+use Rattle.std.proofs.Common.{ℕ, ◌≤◌, List, length, Some, Ok, Err, Result, sym, ap, ◌∙◌, subst}
 use Rattle.faults.specs.declared.fault.Fault.{Fault}
 use Rattle.faults.specs.declared.line.Line.{Line}
 use Rattle.faults.specs.Faults.{number}
@@ -11,7 +11,7 @@ use Rattle.shared_end.specs.declared.answer.FrameAnswer.{FrameAnswer}
 use Rattle.shared_end.specs.declared.endpoint.Endpoint.{Endpoint}
 use Rattle.shared_end.specs.declared.link.Link.{Link}
 use Rattle.shared_end.specs.declared.step.Step.{Step}
-use Rattle.shared_end.specs.Outcomes.{Outcome, taken, fault, Comes, reset_message, Sends}
+use Rattle.shared_end.specs.Outcomes.{Outcome, taken, fault, Comes, reset_message}
 use Rattle.shared_end.specs.Endpoints.{width, with_link, acted, missed, restarted}
 use Rattle.shared_end.specs.Calls.{line_of, Noted, filled, Room, Answered, Framed}
 use Rattle.shared_end.proofs.Filling.{filled_is}

@@ -1,7 +1,7 @@
 -- The state, the link and the sink of an end, and what a step, a fault, a tick or a reset makes of them. Assumes nothing.
-use Rattle.std.specs.Prelude.{◌≡◌, ℕ, Bool, true, false, cond, List, Some, None, Ok, Err, Option, Result}
+use Rattle.std.specs.Prelude.{ℕ, Bool, cond, Some, None, Ok, Err, Option, Result}
 use Rattle.faults.specs.declared.fault.Fault.{Fault}
-use Rattle.faults.specs.declared.fault.Fault.TheVariants.{SinkDown, WatchdogExpired}
+use Rattle.faults.specs.declared.fault.Fault.TheVariants.{SinkDown}
 use Rattle.faults.specs.declared.state.State.TheVariants as s
 use Rattle.length.specs.declared.DataLength.{DataLength}
 use Rattle.sink.specs.declared.Sink.{Ghosts}

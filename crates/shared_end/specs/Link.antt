@@ -1,5 +1,5 @@
 -- What an end keeps of its connection, and what is written from it. Assumes nothing.
-use Rattle.std.specs.Prelude.{◌≡◌, ℕ, ◌-◌, Bool, cond, not, ◌&&◌, List, [], ◌∷◌, ◌++◌, length, replicate, Ok, Err, Result, ◌≢◌, nat_le}
+use Rattle.std.specs.Prelude.{◌≡◌, ℕ, ◌-◌, Bool, cond, not, ◌&&◌, List, ◌∷◌, ◌++◌, length, replicate, Ok, Err, Result, ◌≢◌, nat_le}
 use Rattle.crc.specs.Register.{low_high}
 use Rattle.frame.specs.Commands.{octet}
 use Rattle.frame.specs.declared.command.Command.{Command}

@@ -1,3 +1,3 @@
 pub mod Banks
 pub mod Drives
-pub mod DriveSinkLemmas
+pub mod Switching

@@ -2,7 +2,7 @@
 ghost use Rattle.std.specs.Prelude.{◌≡◌, slice_index, slice_index_or};
 ghost use Rattle.sinks.specs.Drives.{octet_of, octets_of, switches_of, new_drive, drive_released, drive_cleared, drive_told};
 ghost use Rattle.sink.proofs.Lits.{first_within, lit_and_left, same_bit};
-ghost use Rattle.sinks.specs.DriveSinkLemmas.{masked};
+ghost use Rattle.sinks.specs.Switching.{masked};
 ghost use Rattle.std.proofs.Common.{rules};
 
 use codes::refusal::Refusal;

@@ -1,5 +1,5 @@
 -- A step and its conclusion come to the outcome. Assumes nothing.
-use Rattle.std.proofs.Common.{◌≡◌, Some, Ok, Err, Result, sym, refl, ap, ◌∙◌, subst}
+use Rattle.std.proofs.Common.{◌≡◌, Some, Ok, Err, Result, sym, ap, ◌∙◌, subst}
 use Rattle.faults.specs.declared.fault.Fault.{Fault}
 use Rattle.faults.specs.Faults.{number}
 use Rattle.frame.specs.Commands.{octet}
@@ -11,7 +11,7 @@ use Rattle.slave.specs.declared.record.Record.{Record}
 use Rattle.slave.specs.declared.slave.Slave.{Slave}
 use Rattle.slave.specs.Steps.{Outcome, taken, fault, Comes}
 use Rattle.slave.specs.Matching.{with_record}
-use Rattle.slave.specs.Concluding.{renewed, Resets, acted, missed, concluded, Concludes}
+use Rattle.slave.specs.Concluding.{Resets, missed, concluded, Concludes}
 use Rattle.slave.specs.Responding.{ended, Ends}
 
 module _ {S P : Type 0} (m : Ghosts S) (e : Slave S P) (own : Record) where

@@ -1,11 +1,11 @@
 -- What a slave makes of a frame, by its kind and the slave's state. Assumes nothing.
-use Rattle.std.specs.Prelude.{◌≡◌, ℕ, ◌+◌, Bool, true, false, cond, not, ◌&&◌, List, [], ◌∷◌, ◌++◌, replicate, Some, None, Ok, Err, Option, Result, ◌==◌, nat_le, nat_lt}
+use Rattle.std.specs.Prelude.{◌≡◌, ℕ, ◌+◌, true, false, cond, not, ◌&&◌, List, ◌++◌, replicate, Some, None, Ok, Err, Option, Result, ◌==◌, nat_le, nat_lt}
 use Rattle.faults.specs.declared.fault.Fault.{Fault}
 use Rattle.faults.specs.declared.fault.Fault.TheVariants.{InvalidCommand, InvalidConnectionId, InvalidCrc, InvalidAddress, InvalidParameterLength, InvalidWatchdog, InvalidUserLength}
 use Rattle.faults.specs.declared.state.State.{State}
 use Rattle.faults.specs.declared.state.State.TheVariants as s
 use Rattle.frame.specs.Commands.{octet}
-use Rattle.frame.specs.Reading.{id, padded}
+use Rattle.frame.specs.Reading.{id}
 use Rattle.frame.specs.declared.command.Command.{Command}
 use Rattle.frame.specs.declared.command.Command.TheVariants as c
 use Rattle.crc.specs.Register.{low_high}
@@ -20,7 +20,7 @@ use Rattle.end.specs.declared.step.Act.TheVariants as a
 use Rattle.end.specs.declared.step.Step.{Step}
 use Rattle.slave.specs.declared.record.Limits.{Limits}
 use Rattle.slave.specs.declared.record.Record.{Record}
-use Rattle.slave.specs.Storing.{placed, word, with_piece}
+use Rattle.slave.specs.Storing.{word, with_piece}
 
 -- a frame is taken, with the state after it, what the sink is told, the frame that goes out (from which numbers, with
 -- which connection ID, command and octets) and the record after it; or it is a fault

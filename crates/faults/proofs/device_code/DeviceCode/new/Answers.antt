@@ -1,5 +1,5 @@
 -- The code that is built is that of the definition: a range has only one proof.
-use Rattle.std.proofs.Common.{◌≡◌, ℕ, Bool, true, false, leb, Some, None, Option, sym, refl, ap, ◌∙◌, true≢false}
+use Rattle.std.proofs.Common.{◌≡◌, ℕ, Bool, true, false, leb, Some, Option, sym, refl, ap, ◌∙◌, true≢false}
 use mathlib.Core.Bool.{Bool-set}
 use Rattle.faults.specs.DeviceCodes.{code_by}
 use Rattle.faults.specs.declared.device_code.DeviceCode.{DeviceCode}

@@ -1,5 +1,5 @@
 -- Each turn stores one part behind the front, and the connection ID goes last.
-use Rattle.std.proofs.Common.{◌≡◌, ℕ, ◌+◌, ◌-◌, ◌*◌, ◌/◌, ◌∷◌, ◌++◌, get_or, set, replicate, sym, refl, ap, ◌∙◌, arith, rules}
+use Rattle.std.proofs.Common.{◌≡◌, ◌+◌, ◌-◌, ◌*◌, ◌/◌, ◌∷◌, ◌++◌, get_or, set, replicate, refl, ap, ◌∙◌, arith, rules}
 use Rattle.crc.specs.Register.{low_high}
 use Rattle.frame.specs.Layout.{parts}
 use Rattle.frame.proofs.Filling.{split, parts_more, id_last}

@@ -1,5 +1,5 @@
 -- The loop gathers what the parts say, and all of them stand in a whole frame.
-use Rattle.std.proofs.Common.{◌≡◌, ◌/◌, Bool, true, ◌&&◌, List, sym, ap, ◌∙◌, add-one, arith, rules}
+use Rattle.std.proofs.Common.{◌≡◌, ◌/◌, true, ◌&&◌, sym, ap, ◌∙◌, add-one, arith, rules}
 use Rattle.frame.specs.Reading.{right, whole, parts_right, body}
 use Rattle.frame.proofs.received.Received.is_right.Goals as goal
 

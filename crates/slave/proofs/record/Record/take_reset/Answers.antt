@@ -1,10 +1,10 @@
 -- The frame was right by fresh numbers, and leaves no trace in them.
-use Rattle.std.proofs.Common.{◌≡◌, sym, refl, ap, subst}
+use Rattle.std.proofs.Common.{refl, ap, subst}
 use Rattle.frame.specs.Commands.{octet}
 use Rattle.frame.specs.declared.command.Command.TheVariants.{Reset}
 use Rattle.chain.specs.Numbers.{fresh}
 use Rattle.chain.specs.Written.{Written}
-use Rattle.end.specs.Link.{coded, freshened}
+use Rattle.end.specs.Link.{coded}
 use Rattle.slave.specs.Steps.{restarted}
 use Rattle.slave.proofs.record.Record.take_reset.Goals as goal
 

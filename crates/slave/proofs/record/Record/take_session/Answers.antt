@@ -6,10 +6,9 @@ use Rattle.frame.specs.Commands.{octet}
 use Rattle.frame.specs.declared.command.Command.TheVariants.{Session}
 use Rattle.chain.specs.Written.{Written}
 use Rattle.end.specs.Link.{after_writing}
-use Rattle.end.specs.declared.link.Link.{Link}
 use Rattle.end.specs.declared.step.Step.{Step}
 use Rattle.slave.specs.declared.record.Record.{Record}
-use Rattle.slave.specs.Steps.{Outcome, fault, Comes, numbered, opened, restarted}
+use Rattle.slave.specs.Steps.{Outcome, fault, Comes, numbered, restarted}
 use Rattle.slave.proofs.record.Record.take_session.Goals as goal
 
 chosen : (b : Bool) (o e : Outcome) (before : Record) (r : Result Step Fault) (now : Record) → b ≡ true → Comes o before r now → Comes (cond b o e) before r now

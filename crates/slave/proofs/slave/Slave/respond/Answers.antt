@@ -1,4 +1,4 @@
-use Rattle.std.proofs.Common.{◌≡◌, ap, ◌∙◌, subst}
+use Rattle.std.proofs.Common.{ap, ◌∙◌, subst}
 use Rattle.slave.specs.Matching.{asked}
 use Rattle.slave.specs.Concluding.{concluded, Concludes}
 use Rattle.slave.proofs.Outcomes.{ended_by, ends_by}

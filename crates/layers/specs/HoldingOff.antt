@@ -1,3 +1,4 @@
+-- Lemma of the law of the hold-off: zeros or the released octets are passed down. Assumes nothing.
 use Rattle.std.specs.Prelude.{Bool, true, false, cond, List, ℕ}
 use Rattle.sink.specs.Octets.{zeros, Within}
 use Rattle.sink.proofs.Lits.{none_lit}

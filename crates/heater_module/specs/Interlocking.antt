@@ -1,3 +1,4 @@
+-- Lemma of the law of the heater stage: with the interlock and without it, no bit is added. Assumes nothing.
 use Rattle.std.specs.Prelude.{Bool, true, false, cond, ℕ}
 use Rattle.std.specs.Int.Bits.{bit_and}
 use Rattle.sink.specs.Octets.{Bit}

@@ -1,3 +1,4 @@
+-- Lemmas of the law of the drive: what it shows is octet 0 ANDed with 15. Assumes nothing.
 use Rattle.std.specs.Prelude.{◌≡◌, ℕ, ◌/◌, ◌%◌, ◌==◌, bit_and}
 use Rattle.std.proofs.Common.{sym, ◌∙◌, arith, rules}
 use Rattle.std.proofs.lemmas.Nat.{mod-pow-add, and_mask}
