@@ -26,7 +26,7 @@ pub fn make_all<E: End>(
     journal: &mut Journal<'_, Line>,
     reply: &mut [u8],
 )
-    ensures { Ran did calls.now end.old journal.old end.new journal.new }
+    ensures { Ran E.did calls.now end.old journal.old end.new journal.new }
 {
     for call in calls {
         end.make(*call, journal, reply);
