@@ -1,5 +1,6 @@
 // The life of the connection.
 use crate::ends::{Module, SESSIONS, read_journal, step, tell};
+use anyhow::anyhow;
 use connection::{bring_back, exchanges_needed};
 use faults::fault::Fault;
 use faults::line::Line;

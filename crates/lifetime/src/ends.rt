@@ -1,4 +1,5 @@
 // The ends of the walkthrough, and what is printed of them.
+use anyhow::anyhow;
 use connection::exchange;
 use faults::line::Line;
 use hexadecimal::Hex;

@@ -14,8 +14,8 @@ returns-in_err-frame-2 g c =
     let e = c.args.master.now in
     let latest = c.args.latest in
     let reply = c.frame.new.reply in
-    let count : ℕ = c.frame-octets-count.result in
-    let count_is = part count e.endpoint.link.size c.size.result c.frame-octets-count.ensures c.size.ensures in
+    let count : ℕ = c.frame_octets-count.result in
+    let count_is = part count e.endpoint.link.size c.size.result c.frame_octets-count.ensures c.size.ensures in
     let all : length latest ≡ 67 = search rules in
     absurd (accepted g.S.Sink g.T.Sink g.P.Profile e c.frame-2.new.self c.args.slave.now c.frame.new.self latest reply
     (take (count - 0) latest) (ap (λ k. take k latest) count_is) all
@@ -29,8 +29,8 @@ returns g c =
     let e = c.args.master.now in
     let latest = c.args.latest in
     let reply = c.frame.new.reply in
-    let count : ℕ = c.frame-octets-count.result in
-    let count_is = part count e.endpoint.link.size c.size.result c.frame-octets-count.ensures c.size.ensures in
+    let count : ℕ = c.frame_octets-count.result in
+    let count_is = part count e.endpoint.link.size c.size.result c.frame_octets-count.ensures c.size.ensures in
     let all : length latest ≡ 67 = search rules in
     made g.S.Sink g.T.Sink g.P.Profile e c.frame-2.new.self c.args.slave.now c.frame.new.self latest reply
     (take (count - 0) latest) (ap (λ k. take k latest) count_is) all

@@ -8,6 +8,6 @@ loop-made-init g c = repeated_none g.S.Sink g.T.Sink g.P.Profile c.args.master.n
 pub loop-made-preserved : goal.loop-made-preserved
 loop-made-preserved g c =
     let l = c.loop-made in
-    repeated_more g.S.Sink g.T.Sink g.P.Profile c.args.master.now c.args.slave.now c.args.first l.-made
+    repeated_more g.S.Sink g.T.Sink g.P.Profile c.args.master.now c.args.slave.now c.args.first l._made
     l.master c.exchange.new.master l.slave c.exchange.new.slave c.args.sessions l.latest c.in_ok-latest.latest
     l.master_journal c.exchange.new.master_journal l.slave_journal c.exchange.new.slave_journal l.invariant c.in_ok-latest.ensures

@@ -7,5 +7,5 @@ pub returns : goal.returns
 returns g c =
     record {
       count = search rules;
-      law = comes_back g.S.Sink g.T.Sink (record { effects = g.met.T.Sink.effects; within = g.met.T.Sink.within }) g.P.Profile c.args.master.now c.args.-slave.now;
+      law = comes_back g.S.Sink g.T.Sink (record { effects = g.met.T.Sink.effects; within = g.met.T.Sink.within }) g.P.Profile c.args.master.now c.args._slave.now;
     }
