@@ -10,7 +10,6 @@ use Rattle.profile.specs.declared.profile.Profile as profile
 use Rattle.shared_end.specs.declared.step.Act.TheVariants.{Release}
 use Rattle.shared_end.specs.Endpoints.{width}
 use Rattle.master_end.specs.declared.master.Master.{Master}
-use Rattle.outlet.specs.declared.blocks.Block.TheVariants.{Parameter}
 use Rattle.outlet.specs.Blocks.{parameter_block}
 use Rattle.slave_end.specs.declared.slave.Slave.{Slave}
 use Rattle.inlet.specs.Storing.{word}

@@ -1,5 +1,5 @@
 -- Calls that were made lead a history on. Assumes nothing.
-use Rattle.std.proofs.Common.{List, [], ◌∷◌, ◌++◌}
+use Rattle.std.proofs.Common.{List, ◌++◌}
 use Rattle.faults.specs.declared.line.Line.{Line}
 use Rattle.journal.specs.declared.queue.Journal.{Journal}
 use Rattle.history.specs.declared.call.Call.{Call}

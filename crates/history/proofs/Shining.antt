@@ -1,10 +1,7 @@
 -- What a sink shows, and where it came from, over the calls that are the same at both ends. Assumes nothing.
-use Rattle.std.proofs.Common.{◌≡◌, ℕ, zero, suc, ◌+◌, ◌-◌, ◌/◌, ◌%◌, ◌^◌, ◌<◌, ◌≤◌, Bool, true, false, cond, not, ◌&&◌, leb, List, [], ◌∷◌, get_or, replicate, Some, None, Ok, Err, Option, sym, refl, ap, ◌∙◌, subst, arith, leb-false}
+use Rattle.std.proofs.Common.{◌≡◌, ℕ, zero, suc, ◌+◌, ◌-◌, ◌/◌, ◌%◌, ◌^◌, ◌<◌, ◌≤◌, Bool, true, false, cond, not, ◌&&◌, leb, List, ◌∷◌, get_or, replicate, Some, None, Ok, sym, refl, ap, ◌∙◌, subst, arith, leb-false}
 use native.Mathlib.Nat.{zero-div}
-use Rattle.codes.specs.declared.refusal.Refusal.{Refusal}
-use Rattle.faults.specs.declared.fault.Fault.{Fault}
 use Rattle.faults.specs.declared.fault.Fault.TheVariants.{SinkDown, WatchdogExpired}
-use Rattle.faults.specs.declared.line.Line.{Line}
 use Rattle.faults.specs.declared.state.State.{State}
 use Rattle.faults.specs.declared.state.State.TheVariants as s
 use Rattle.frame.specs.declared.command.Command.TheVariants.{ProcessData}
@@ -14,13 +11,12 @@ use Rattle.sink.specs.Octets.{zeros, Lit}
 use Rattle.shared_end.specs.declared.answer.Answer.{Answer}
 use Rattle.shared_end.specs.declared.endpoint.Endpoint.{Endpoint}
 use Rattle.shared_end.specs.declared.link.Link.{Link}
-use Rattle.shared_end.specs.declared.step.Act.{Act}
-use Rattle.shared_end.specs.declared.step.Act.TheVariants.{Keep, Clear, Release}
+use Rattle.shared_end.specs.declared.step.Act.TheVariants.{Release}
 use Rattle.shared_end.specs.declared.data_command.DataCommand.{DataCommand}
 use Rattle.shared_end.specs.Link.{expires, counted, with_outputs}
-use Rattle.shared_end.specs.Endpoints.{width, with_link, with_sink, acted, missed, restarted, ticked}
+use Rattle.shared_end.specs.Endpoints.{width, with_link, with_sink, missed, restarted, ticked}
 use Rattle.shared_end.specs.Calls.{line_of, tick_fault}
-use Rattle.history.specs.Events.{Event, Took, Idle, NotDown, line, ticks, frame, tick, reset, set, feedback, read_out}
+use Rattle.history.specs.Events.{Event, Took, Idle, NotDown, line, ticks, tick, feedback}
 use Rattle.history.specs.Live.{data_octets, Carried, here, later}
 
 -- no bit of the zeros is set

@@ -1,5 +1,5 @@
 -- Every history of an end leads its journal through a run of puts and read-outs. Assumes nothing.
-use Rattle.std.proofs.Common.{◌≡◌, List, [], ◌∷◌, Some, None, Option, sym, subst}
+use Rattle.std.proofs.Common.{◌≡◌, List, ◌∷◌, Some, None, Option, sym, subst}
 use Rattle.faults.specs.declared.line.Line.{Line}
 use Rattle.journal.specs.declared.calls.Call.{Call}
 use Rattle.journal.specs.declared.queue.Journal.{Journal}

@@ -1,5 +1,5 @@
 -- A bit that a sink shows comes from a live connection. Assumes nothing.
-use Rattle.std.specs.Prelude.{◌≡◌, ℕ, ◌+◌, ◌<◌, List, [], ◌∷◌, ◌++◌, length, take, None}
+use Rattle.std.specs.Prelude.{◌≡◌, ℕ, ◌+◌, ◌<◌, List, [], ◌∷◌, length, None}
 use Rattle.length.specs.Lawful.{pieces}
 use Rattle.frame.specs.Reading.{body, padded}
 use Rattle.frame.specs.declared.command.Command.TheVariants.{Session, Connection, Parameter, ProcessData, FailSafeData}

@@ -1,5 +1,5 @@
 -- What a frame can come to at a slave: every outcome is one of a few kinds. Assumes nothing.
-use Rattle.std.proofs.Common.{◌≡◌, ℕ, ◌+◌, ◌≤◌, Bool, true, false, cond, not, ◌&&◌, eqb, ltb, leb, List, Some, None, Option, sym, refl, ap, ◌∙◌, subst, arith, leb-true}
+use Rattle.std.proofs.Common.{◌≡◌, ℕ, ◌+◌, ◌≤◌, Bool, true, false, cond, not, ◌&&◌, eqb, ltb, leb, List, Some, None, Option, refl, ap, arith, leb-true}
 use Rattle.faults.specs.declared.fault.Fault.{Fault}
 use Rattle.faults.specs.declared.fault.Fault.TheVariants.{InvalidCommand, UnknownCommand, InvalidConnectionId, InvalidCrc, InvalidAddress, InvalidParameterLength, InvalidWatchdog, InvalidUserLength}
 use Rattle.faults.specs.declared.state.State.{State}
@@ -17,7 +17,6 @@ use Rattle.shared_end.specs.declared.step.Act.TheVariants as a
 use Rattle.shared_end.specs.Outcomes.{Outcome, taken, fault, Message}
 use Rattle.history.proofs.Taking.{relinked, Tells, process_data, fail_safe_data}
 use Rattle.inlet.specs.declared.Inlet.{Inlet}
-use Rattle.inlet.specs.declared.Limits.{Limits}
 use Rattle.inlet.specs.Storing.{word, with_piece}
 use Rattle.inlet.specs.Steps.{if_right, if_first, echoed, answered, reset_answered, session_answered, data_answered, data_taken, unless, parameter_fault}
 use Rattle.inlet.specs.Outcomes.{limits, judgement, outcome}

@@ -1,16 +1,12 @@
 -- How far a slave's connection has come, by its state, over every history. Assumes nothing.
-use Rattle.std.proofs.Common.{◌≡◌, ℕ, suc, ◌+◌, ◌-◌, ◌*◌, ◌/◌, ◌<◌, ◌≤◌, Bool, true, false, cond, ltb, List, [], ◌∷◌, ◌++◌, length, take, Some, None, Ok, Err, Option, Result, sym, refl, ap, ◌∙◌, subst, add-zero, mul_comm, arith, ltb-false, ltb-true}
-use Rattle.faults.specs.declared.fault.Fault.{Fault}
-use Rattle.faults.specs.declared.line.Line.{Line}
+use Rattle.std.proofs.Common.{◌≡◌, ℕ, ◌+◌, ◌*◌, ◌<◌, ◌≤◌, List, [], ◌∷◌, ◌++◌, length, take, Some, Ok, Option, sym, refl, ap, ◌∙◌, arith, ltb-false, ltb-true}
 use Rattle.faults.specs.declared.state.State.{State}
 use Rattle.faults.specs.declared.state.State.TheVariants as s
 use Rattle.length.specs.Lawful.{pieces}
-use Rattle.length.specs.declared.DataLength.{DataLength}
 use Rattle.length.proofs.Bounds.{bounds}
 use Rattle.frame.specs.Commands.{command}
 use Rattle.frame.specs.Reading.{command_octet}
 use Rattle.frame.specs.declared.command.Command.{Command}
-use Rattle.frame.specs.declared.command.Command.TheVariants as c
 use Rattle.sink.specs.declared.Sink as sink
 use Rattle.sink.specs.Lawful.{Lawful}
 use Rattle.profile.specs.declared.profile.Profile as profile
@@ -19,16 +15,15 @@ use Rattle.shared_end.specs.declared.answer.FrameAnswer.{FrameAnswer}
 use Rattle.shared_end.specs.declared.endpoint.Endpoint.{Endpoint}
 use Rattle.shared_end.specs.declared.link.Link.{Link}
 use Rattle.shared_end.specs.declared.step.Act.{Act}
-use Rattle.shared_end.specs.declared.step.Act.TheVariants as a
 use Rattle.shared_end.specs.declared.data_command.DataCommand.{DataCommand}
 use Rattle.chain.specs.declared.numbers.Numbers.{Numbers}
-use Rattle.shared_end.specs.Outcomes.{Message, Outcome, taken, fault, is_taken, kept}
+use Rattle.shared_end.specs.Outcomes.{Message, Outcome, taken, is_taken, kept}
 use Rattle.shared_end.specs.Endpoints.{width, concluded, raised}
 use Rattle.shared_end.specs.Calls.{line_of}
 use Rattle.history.specs.Events.{Event, frame, Idle, Took}
 use Rattle.history.specs.Live as live
 use Rattle.history.specs.Live.{data_octets, Since}
-use Rattle.history.proofs.Shining.{Dark, Glows, ShinesIn, Shines, restarted_dark}
+use Rattle.history.proofs.Shining.{ShinesIn, Shines, restarted_dark}
 use Rattle.history.proofs.Taking.{relinked, Tells, told_glows, data_since, in_full}
 use Rattle.history.proofs.Lasting.{Flowing, Path}
 use Rattle.inlet.specs.declared.Inlet.{Inlet}

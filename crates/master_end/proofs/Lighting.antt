@@ -1,6 +1,6 @@
 -- In every history of a master, a bit that its sink shows comes from a live connection, and its journal tells every
 -- fault. Assumes nothing.
-use Rattle.std.proofs.Common.{◌≡◌, ℕ, true, List, [], ◌∷◌, Ok, Err, Result, sym, refl, ap, ◌∙◌, subst, append-nil}
+use Rattle.std.proofs.Common.{ℕ, true, List, [], ◌∷◌, Ok, Err, Result, sym, refl, ap, subst, append-nil}
 use Rattle.codes.specs.declared.refusal.Refusal.{Refusal}
 use Rattle.faults.specs.declared.line.Line.{Line}
 use Rattle.frame.specs.Commands.{command}
@@ -29,7 +29,7 @@ use Rattle.master_end.specs.Matching.{asked}
 use Rattle.master_end.specs.Calls.{holding, Made, Frames}
 use Rattle.master_end.specs.Histories.{Making, Did, History, AlwaysLive, AlwaysTold, Runs}
 use Rattle.outlet.proofs.Moves.{move}
-use Rattle.outlet.proofs.Progress.{Own, Along, Progress, path, stands}
+use Rattle.outlet.proofs.Progress.{Own, Along, path, stands}
 
 abbrev own : {S : Type 0} → Master S → Own
 own e = record { outlet = e.outlet; plan = e.plan }

@@ -1,5 +1,5 @@
 -- How far a master's connection has come, by its state, over every history. Assumes nothing.
-use Rattle.std.proofs.Common.{◌≡◌, ℕ, ◌+◌, ◌*◌, ◌<◌, ◌≤◌, true, false, ltb, List, [], ◌∷◌, length, Some, None, Ok, Option, sym, refl, ap, ◌∙◌, arith, ltb-false, ltb-true}
+use Rattle.std.proofs.Common.{◌≡◌, ℕ, ◌+◌, ◌*◌, ◌<◌, ◌≤◌, List, [], ◌∷◌, length, Ok, Option, refl, ap, ◌∙◌, arith, ltb-false, ltb-true}
 use Rattle.faults.specs.declared.state.State.{State}
 use Rattle.faults.specs.declared.state.State.TheVariants as s
 use Rattle.length.specs.Lawful.{pieces}
@@ -12,7 +12,7 @@ use Rattle.sink.specs.declared.Sink.{Ghosts}
 use Rattle.sink.specs.Lawful.{Lawful}
 use Rattle.shared_end.specs.declared.answer.FrameAnswer.{FrameAnswer}
 use Rattle.shared_end.specs.declared.endpoint.Endpoint.{Endpoint}
-use Rattle.shared_end.specs.Outcomes.{Outcome, taken, fault, is_taken, kept}
+use Rattle.shared_end.specs.Outcomes.{Outcome, is_taken, kept}
 use Rattle.shared_end.specs.Endpoints.{width, concluded, raised}
 use Rattle.shared_end.specs.Calls.{line_of}
 use Rattle.history.specs.Events.{Event, frame, Idle, Took}

@@ -1,9 +1,8 @@
 -- In every history of a slave, a bit that its sink shows comes from a live connection, and its journal tells every
 -- fault. Assumes nothing.
-use Rattle.std.proofs.Common.{◌≡◌, ℕ, true, List, [], ◌∷◌, Ok, Err, Result, sym, refl, ap, ◌∙◌, subst, append-nil}
+use Rattle.std.proofs.Common.{◌≡◌, ℕ, List, [], ◌∷◌, Ok, Err, Result, sym, refl, ap, subst, append-nil}
 use Rattle.codes.specs.declared.refusal.Refusal.{Refusal}
 use Rattle.faults.specs.declared.line.Line.{Line}
-use Rattle.faults.specs.declared.state.State.TheVariants as s
 use Rattle.frame.specs.Commands.{command}
 use Rattle.frame.specs.Reading.{command_octet}
 use Rattle.journal.specs.declared.queue.Journal.{Journal}

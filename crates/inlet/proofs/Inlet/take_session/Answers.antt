@@ -1,5 +1,5 @@
 -- The frame was right by fresh numbers, and the answer follows it.
-use Rattle.std.proofs.Common.{◌≡◌, refl, ap, ◌∙◌, subst}
+use Rattle.std.proofs.Common.{refl, ap, ◌∙◌, subst}
 use Rattle.faults.specs.declared.fault.Fault.TheVariants.{InvalidCrc}
 use Rattle.frame.specs.declared.command.Command.TheVariants.{Session}
 use Rattle.shared_end.specs.Link.{numbered, after_writing}

@@ -1,5 +1,5 @@
 -- Behind the octets of the block the zeros are left.
-use Rattle.std.proofs.Common.{◌≡◌, ℕ, ◌+◌, ◌-◌, min, ◌++◌, take, drop, replicate, ap, ◌∙◌, arith}
+use Rattle.std.proofs.Common.{◌≡◌, ℕ, ◌+◌, ◌-◌, ◌++◌, take, drop, replicate, ap, ◌∙◌, arith}
 use borrow.Rule.Slice.PartMut.{post_of, Post-is}
 use Rattle.std.proofs.lemmas.List.{drop-replicate}
 use Rattle.outlet.specs.Blocks.{piece}

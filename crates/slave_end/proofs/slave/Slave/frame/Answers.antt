@@ -1,5 +1,5 @@
 -- The step and its answer come to the outcome that the octets ask for.
-use Rattle.std.proofs.Common.{◌≡◌, ap, subst, rules}
+use Rattle.std.proofs.Common.{ap, subst, rules}
 use Rattle.shared_end.specs.Endpoints.{with_link}
 use Rattle.shared_end.specs.Calls.{Answered}
 use Rattle.shared_end.proofs.Framing.{framed, room}

@@ -1,5 +1,5 @@
 -- Each call is the event that its contract speaks of.
-use Rattle.std.proofs.Common.{◌≡◌, sym, refl, ap}
+use Rattle.std.proofs.Common.{sym, refl, ap}
 use Rattle.history.specs.Events as event
 use Rattle.history.specs.Requests.{request}
 use Rattle.master_end.proofs.master.running.MasterEnd.make.Goals as goal
