@@ -1,6 +1,6 @@
 // The output stage: two heater contactors that close only under an interlock. In octet 0 bit 0 is the upper heater, bit 1
 // the lower one and bit 7 the interlock; a release without the interlock opens both.
-ghost use Rattle.std.specs.Prelude.{◌≡◌, get_or, leb};
+ghost use Rattle.std.specs.Prelude.{◌≡◌, slice_index, nat_le};
 ghost use Rattle.heater_module.specs.Heaters.{interlocked, octets_of, new_stage, stage_released, stage_cleared, stage_told};
 ghost use Rattle.sink.proofs.Lits.{first_within};
 ghost use Rattle.heater_module.specs.Interlocking.{within_octet};
@@ -40,7 +40,7 @@ impl Sink for HeaterStage {
 
     ghost up = { λ s. s.up };
 
-    ghost would = { λ _ o. octets_of (interlocked (get_or o 0 0)) };
+    ghost would = { λ _ o. octets_of (interlocked (slice_index o 0)) };
 
     ghost released = { stage_released };
 
@@ -50,7 +50,7 @@ impl Sink for HeaterStage {
 
     ghost effects = { Prim.search rules };
 
-    ghost within = { λ s o. let n = get_or o 0 0 in first_within (interlocked n) o (within_octet (leb 128 n) n) };
+    ghost within = { λ s o. let n = slice_index o 0 in first_within (interlocked n) o (within_octet (nat_le 128 n) n) };
 
     fn release(&mut self, octets: &[u8; 32]) -> Result<(), Refusal> {
         if !self.up {

@@ -1,5 +1,5 @@
 -- A new hold-off layer, what it passes down, and the layer that each call leaves. Assumes nothing.
-use Rattle.std.specs.Prelude.{Bool, cond, List, ℕ, ◌-◌, eqb}
+use Rattle.std.specs.Prelude.{Bool, cond, List, ℕ, ◌-◌, ◌==◌}
 use Rattle.sink.specs.Octets.{zeros}
 use Rattle.sink.specs.declared.Sink.{Ghosts}
 use Rattle.layers.specs.declared.hold_off.HoldOff.{HoldOff}
@@ -9,7 +9,7 @@ hold_off_over k below = record { k = k; count = k; below = below }
 
 -- zeros while the count is above 0
 abbrev pub passed : ℕ → List ℕ → List ℕ
-passed count o = cond (eqb count 0) o zeros
+passed count o = cond (count == 0) o zeros
 
 module _ {S : Type 0} (m : Ghosts S) where
   -- an accepted release lowers the count by one; a count of 0 stays

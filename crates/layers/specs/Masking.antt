@@ -6,12 +6,12 @@ use Rattle.sink.specs.Octets.{Within}
 use Rattle.sink.proofs.Lits.{lit_and_left, same_bit}
 use Rattle.layers.specs.Masked.{masked}
 
-pub getD_masked : (os ms : List ℕ) (i : ℕ) → get_or (masked os ms) i 0 ≡ bit_and (get_or os i 0) (get_or ms i 0)
-getD_masked [] ms i = refl
-getD_masked (o ∷ os) [] zero = sym (and_zero_r o)
-getD_masked (o ∷ os) [] (suc i) = sym (and_zero_r (get_or os i 0))
-getD_masked (o ∷ os) (m ∷ ms) zero = refl
-getD_masked (o ∷ os) (m ∷ ms) (suc i) = getD_masked os ms i
+pub get_or_masked : (os ms : List ℕ) (i : ℕ) → get_or (masked os ms) i 0 ≡ bit_and (get_or os i 0) (get_or ms i 0)
+get_or_masked [] ms i = refl
+get_or_masked (o ∷ os) [] zero = sym (and_zero_r o)
+get_or_masked (o ∷ os) [] (suc i) = sym (and_zero_r (get_or os i 0))
+get_or_masked (o ∷ os) (m ∷ ms) zero = refl
+get_or_masked (o ∷ os) (m ∷ ms) (suc i) = get_or_masked os ms i
 
 pub length_masked : (n : ℕ) (os ms : List ℕ) → length os ≡ n → length ms ≡ n → length (masked os ms) ≡ n
 length_masked zero [] ms p q = refl
@@ -25,7 +25,7 @@ pub masked_all : (n : ℕ) (xs os ms : List ℕ) → length xs ≡ n → length 
     → ((i : ℕ) → i < n → get_or xs i 0 ≡ bit_and (get_or os i 0) (get_or ms i 0)) → xs ≡ masked os ms
 masked_all n xs os ms e p q each =
     ext_get_or 0 xs (masked os ms) (e ∙ sym (length_masked n os ms p q))
-    (λ i h. each i (omega arith) ∙ sym (getD_masked os ms i))
+    (λ i h. each i (omega arith) ∙ sym (get_or_masked os ms i))
 
 pub masked_within : (os ms : List ℕ) → Within (masked os ms) os
-masked_within os ms i k h = lit_and_left (get_or os i 0) (get_or ms i 0) k (same_bit (getD_masked os ms i) k h)
+masked_within os ms i k h = lit_and_left (get_or os i 0) (get_or ms i 0) k (same_bit (get_or_masked os ms i) k h)

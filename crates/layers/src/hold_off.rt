@@ -1,5 +1,5 @@
 // The hold-off layer: after its making, a clear or a down feedback it passes zeros down for its first k accepted releases.
-ghost use Rattle.std.specs.Prelude.{◌≡◌, eqb};
+ghost use Rattle.std.specs.Prelude.{◌≡◌, ◌==◌};
 ghost use Rattle.layers.specs.HoldOffs.{passed, hold_off_over, hold_off_released, hold_off_cleared, hold_off_told};
 ghost use Rattle.layers.specs.HoldingOff.{either_within};
 ghost use Rattle.std.proofs.Common.{rules};
@@ -51,7 +51,7 @@ impl<S: Sink> Sink for HoldOff<S> {
 
     ghost effects = { Prim.search rules };
 
-    ghost within = { λ s o i k h. either_within (eqb s.count 0) o i k (S.Sink.within s.below (passed s.count o) i k h) };
+    ghost within = { λ s o i k h. either_within (s.count == 0) o i k (S.Sink.within s.below (passed s.count o) i k h) };
 
     fn release(&mut self, octets: &[u8; 32]) -> Result<(), Refusal> {
         if self.count == 0 {

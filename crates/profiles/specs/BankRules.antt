@@ -1,5 +1,5 @@
 -- The bank profile's numbers and its verdict. Assumes nothing.
-use Rattle.std.specs.Prelude.{cond, List, ℕ, eqb, length}
+use Rattle.std.specs.Prelude.{cond, List, ℕ, ◌==◌, length}
 use Rattle.profile.specs.Numbers.{Numbers}
 use Rattle.profile.specs.declared.verdict.Verdict.{Verdict}
 use Rattle.profile.specs.declared.verdict.Verdict.TheVariants.{Accepted, Invalid}
@@ -10,4 +10,4 @@ bank_numbers = record { octets = 2; lowest = 5; highest = 10000 }
 
 -- there are two octets, and their number is from 10 to 3,000
 abbrev pub bank_verdict : List ℕ → Verdict
-bank_verdict octets = cond (eqb (length octets) 2) (cond (between 10 3000 (word_at octets 0)) Accepted Invalid) Invalid
+bank_verdict octets = cond (length octets == 2) (cond (between 10 3000 (word_at octets 0)) Accepted Invalid) Invalid

@@ -1,5 +1,5 @@
 -- The drive profile's numbers and its verdict. Assumes nothing.
-use Rattle.std.specs.Prelude.{cond, List, ℕ, eqb, length}
+use Rattle.std.specs.Prelude.{cond, List, ℕ, ◌==◌, length}
 use Rattle.profile.specs.Verdicts.{device}
 use Rattle.profile.specs.Numbers.{Numbers}
 use Rattle.profile.specs.declared.verdict.Verdict.{Verdict}
@@ -17,4 +17,4 @@ two_numbers first second =
 -- of the four octets, of which there are no more
 abbrev pub drive_verdict : List ℕ → Verdict
 drive_verdict octets =
-    cond (eqb (length octets) 4) (two_numbers (word_at octets 0) (word_at octets 2)) Invalid
+    cond (length octets == 4) (two_numbers (word_at octets 0) (word_at octets 2)) Invalid

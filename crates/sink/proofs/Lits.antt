@@ -6,10 +6,10 @@ use Rattle.sink.specs.Octets.{zeros, Bit, Lit, Within}
 use Rattle.sink.specs.Lawful.{Lawful}
 use Rattle.sink.specs.declared.Sink.{Ghosts}
 
-pub getD_zeros : (n i : ℕ) → ◌≡◌ {A = ℕ} (get_or (replicate n 0) i 0) 0
-getD_zeros zero i = refl
-getD_zeros (suc n) zero = refl
-getD_zeros (suc n) (suc i) = getD_zeros n i
+pub get_or_zeros : (n i : ℕ) → ◌≡◌ {A = ℕ} (get_or (replicate n 0) i 0) 0
+get_or_zeros zero i = refl
+get_or_zeros (suc n) zero = refl
+get_or_zeros (suc n) (suc i) = get_or_zeros n i
 
 -- equal numbers have the same bits
 pub same_bit : {a b : ℕ} → a ≡ b → (k : ℕ) → Bit a k → Bit b k
@@ -20,7 +20,7 @@ pub no_bit : (k : ℕ) → Bit 0 k → ⊥
 no_bit k h = omega (arith, ap (λ (x : ℕ). x % 2) (zero-div (2 ^ k)), h)
 
 pub none_lit : (i k : ℕ) → Lit zeros i k → ⊥
-none_lit i k h = no_bit k (same_bit (getD_zeros 32 i) k h)
+none_lit i k h = no_bit k (same_bit (get_or_zeros 32 i) k h)
 
 -- a bit of the conjunction is a bit of each part
 pub lit_and_right : (a b k : ℕ) → Bit (bit_and a b) k → Bit b k
@@ -36,7 +36,7 @@ lit_and_left a b k h = lit_and_right b a k (same_bit (and_comm a b) k h)
 -- octet 0 alone is shown, and its bits are set in the released octet 0
 pub first_within : (x : ℕ) (o : List ℕ) → ((k : ℕ) → Bit x k → Lit o 0 k) → Within (x ∷ replicate 31 0) o
 first_within x o bits zero k h = bits k h
-first_within x o bits (suc i) k h = absurd (no_bit k (same_bit (getD_zeros 31 i) k h))
+first_within x o bits (suc i) k h = absurd (no_bit k (same_bit (get_or_zeros 31 i) k h))
 
 -- what a sink shows after a release is within the released octets
 pub shown_within : {S : Type 0} (m : Ghosts S) → Lawful m → (s : S) (o : List ℕ) → Within (m.shown (m.released s o)) o
