@@ -1,4 +1,4 @@
-// The ends of the walkthrough, and what is printed of them.
+// The ends of the connection, and what is printed of them.
 use anyhow::anyhow;
 use connection::exchange;
 use faults::line::Line;
