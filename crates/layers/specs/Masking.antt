@@ -1,6 +1,6 @@
--- Lemmas of the law of the mask. Octets ANDed with it: each octet, the length, and that no bit is added. Assumes nothing.
-use Rattle.std.specs.Prelude.{◌≡◌, refl, List, [], ◌∷◌, ℕ, zero, suc, ◌<◌, get_or, length}
-use Rattle.std.proofs.Common.{sym, ap, ◌∙◌, arith, ext_get_or}
+-- Lemmas of the law of the mask: each octet that it lets through, and that no bit is added. Assumes nothing.
+use Rattle.std.specs.Prelude.{◌≡◌, refl, List, [], ◌∷◌, ℕ, zero, suc, get_or}
+use Rattle.std.proofs.Common.{sym}
 use Rattle.std.specs.Int.Bits.{bit_and, and_zero_r}
 use Rattle.sink.specs.Octets.{Within}
 use Rattle.sink.proofs.Lits.{lit_and_left, same_bit}
@@ -12,20 +12,6 @@ get_or_masked (o ∷ os) [] zero = sym (and_zero_r o)
 get_or_masked (o ∷ os) [] (suc i) = sym (and_zero_r (get_or os i 0))
 get_or_masked (o ∷ os) (m ∷ ms) zero = refl
 get_or_masked (o ∷ os) (m ∷ ms) (suc i) = get_or_masked os ms i
-
-pub length_masked : (n : ℕ) (os ms : List ℕ) → length os ≡ n → length ms ≡ n → length (masked os ms) ≡ n
-length_masked zero [] ms p q = refl
-length_masked zero (o ∷ os) ms p q = omega arith
-length_masked (suc n) [] ms p q = omega arith
-length_masked (suc n) (o ∷ os) [] p q = omega arith
-length_masked (suc n) (o ∷ os) (m ∷ ms) p q = ap suc (length_masked n os ms (omega arith) (omega arith))
-
--- a list of that length that has each such octet
-pub masked_all : (n : ℕ) (xs os ms : List ℕ) → length xs ≡ n → length os ≡ n → length ms ≡ n
-    → ((i : ℕ) → i < n → get_or xs i 0 ≡ bit_and (get_or os i 0) (get_or ms i 0)) → xs ≡ masked os ms
-masked_all n xs os ms e p q each =
-    ext_get_or 0 xs (masked os ms) (e ∙ sym (length_masked n os ms p q))
-    (λ i h. each i (omega arith) ∙ sym (get_or_masked os ms i))
 
 pub masked_within : (os ms : List ℕ) → Within (masked os ms) os
 masked_within os ms i k h = lit_and_left (get_or os i 0) (get_or ms i 0) k (same_bit (get_or_masked os ms i) k h)

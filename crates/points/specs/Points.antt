@@ -14,7 +14,7 @@ pub data Point : Type 0 where
   -- a zero register that is fed one octet gives this
   gives : (octet register : ℕ) → Point
   -- so many exchanges bring a connection back, with data length d and n user octets
-  returns-after : (d n count : ℕ) → Point
+  returns_after : (d n count : ℕ) → Point
   -- the bank profile's verdict on its number has this number
   bank_says : (n verdict : ℕ) → Point
 
@@ -22,7 +22,7 @@ abbrev pub Holds : Point → Type 0
 Holds (frame_has d octets) = frame_octets d ≡ octets
 Holds (refused d) = lawful d ≡ false
 Holds (gives octet register) = feed 0 octet ≡ register
-Holds (returns-after d n count) = exchanges d n ≡ count
+Holds (returns_after d n count) = exchanges d n ≡ count
 Holds (bank_says n verdict) = number (bank_verdict (low_high n)) ≡ verdict
 
 abbrev pub table : List Point
@@ -30,7 +30,7 @@ table =
     frame_has 2 7 ∷ frame_has 32 67
     ∷ refused 0 ∷ refused 3 ∷ refused 34
     ∷ gives 1 0x39B7 ∷ gives 8 0xF40F
-    ∷ returns-after 4 2 6 ∷ returns-after 2 0 8 ∷ returns-after 32 16 5
+    ∷ returns_after 4 2 6 ∷ returns_after 2 0 8 ∷ returns_after 32 16 5
     ∷ bank_says 9 11 ∷ bank_says 10 0 ∷ bank_says 3000 0 ∷ bank_says 3001 11
     ∷ []
 

@@ -1,6 +1,6 @@
 -- After the loop each octet is ANDed with that of the mask.
 use borrow.Author.Rules.{rules}
-use Rattle.layers.specs.Masking.{masked_all}
+use Rattle.layers.proofs.Masking.{masked_all}
 use Rattle.layers.proofs.mask.MaskOctets.masked.Goals as goal
 
 pub returns : goal.returns
