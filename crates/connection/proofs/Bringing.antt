@@ -1,5 +1,5 @@
 -- The calls that bring a connection back are undisturbed exchanges. Assumes nothing.
-use Rattle.std.proofs.Common.{◌≡◌, ℕ, suc, ◌+◌, ◌-◌, true, cond, eqb, List, Some, None, Ok, sym, ap, ◌∙◌, subst, arith, eq-eqb}
+use Rattle.std.proofs.Common.{◌≡◌, ℕ, suc, ◌+◌, ◌≤◌, cond, eqb, true, List, replicate, Some, None, sym, ap, ◌∙◌, subst, arith, eq-eqb}
 use Rattle.codes.specs.declared.refusal.Refusal.TheVariants.{WrongFrameLength, WrongDataCount}
 use Rattle.faults.specs.declared.line.Line.{Line}
 use Rattle.length.specs.declared.DataLength.{DataLength}
@@ -7,16 +7,14 @@ use Rattle.journal.specs.declared.queue.Journal.{Journal}
 use Rattle.sink.specs.declared.Sink as sink
 use Rattle.sink.specs.Lawful.{Lawful}
 use Rattle.profile.specs.declared.profile.Profile as profile
-use Rattle.shared_end.specs.declared.answer.Answer.{Answer}
-use Rattle.shared_end.specs.declared.data_command.DataCommand.TheVariants.{ProcessData}
 use Rattle.shared_end.specs.declared.link.Link.{Link}
 use Rattle.shared_end.specs.Endpoints.{width}
 use Rattle.master_end.specs.declared.master.Master.{Master}
-use Rattle.master_end.specs.Calls as master
 use Rattle.slave_end.specs.declared.slave.Slave.{Slave}
 use Rattle.connection.specs.Exchanges.{Pair, Exchanged, Exchanges, none, more, Undisturbed, reset, set, next}
 use Rattle.connection.specs.Returning.{needed}
-use Rattle.connection.specs.Driving.{pair, Made, Brought}
+use Rattle.connection.specs.Driving.{pair, ByCalls, Brought}
+use Rattle.connection.proofs.Making.{exchanges_of}
 use Rattle.connection.proofs.Returning.{comes_back}
 
 -- where both lengths agree, nothing speaks against it
@@ -35,34 +33,38 @@ module _ {S T P N L U : Type 0} (m : sink.Ghosts S) (t : sink.Ghosts T) (p : pro
   go_on u none = u
   go_on u (more es ex) = next (go_on u es) ex
 
-  module _ (law : Lawful t) (e : Master S) (f : Slave T P) (latest shown : List ℕ) (shown_is : shown ≡ t.shown f.endpoint.sink) where
-    behind : {k : ℕ} {a : Pair S T P} → Undisturbed m t p octets m₀ s₀ 1 a → Exchanges m t p k a (record { master = e; slave = f; latest = latest }) → k + 1 ≡ needed m₀ →
-        Brought m t p m₀ s₀ octets shown e f
+  module _ (law : Lawful t) (sessions : List ℕ) (e : Master S) (f : Slave T P) (latest shown : List ℕ) (j j' k k' : Journal Line)
+      (calls : ByCalls m t p m₀ s₀ sessions octets e f j j' k k') (shown_is : shown ≡ t.shown f.endpoint.sink) where
+    behind : {n : ℕ} {a : Pair S T P} → Undisturbed m t p octets m₀ s₀ 1 a → Exchanges m t p n a (record { master = e; slave = f; latest = latest }) → n + 1 ≡ needed m₀ →
+        Brought m t p m₀ s₀ sessions octets shown e f j j' k k'
     behind u none is = let no : ⊥ = omega (arith, is) in absurd no
-    behind u (more {k = k} {b = b} es ex) is =
-        let count_is : suc k + 1 ≡ needed m₀ = is in
+    behind u (more {k = n} {b = b} es ex) is =
+        let count_is : suc n + 1 ≡ needed m₀ = is in
         record {
-          count = suc k;
+          calls = calls;
+          count = suc n;
           before = b;
           latest = latest;
           count_is = count_is;
           undisturbed = go_on u es;
           last = ex;
           shown_is = shown_is;
-          lit = λ fits up. shown_is ∙ (comes_back m t law p m₀ s₀ fits up octets).lit (suc k) b (record { master = e; slave = f; latest = latest }) (go_on u es) ex count_is;
+          lit = λ fits up. shown_is ∙ (comes_back m t law p m₀ s₀ fits up octets).lit (suc n) b (record { master = e; slave = f; latest = latest }) (go_on u es) ex count_is;
         }
 
-  pub brought : Lawful t → (e₁ e₂ e₃ e₄ : Master S) (s₂ s₄ : Slave T P) (buffer first second last shown : List ℕ) (sessions : List ℕ) (j₀ j₁ j j' k k' : Journal Line) (r : Answer) (count : ℕ) →
-      master.Resets m m₀ buffer j₀ (Ok r) e₁ first j₁ → Made m t p e₁ s₀ sessions first second e₂ s₂ j j' k k' → master.Sets e₂ octets ProcessData (Ok tt) e₃ →
-      Exchanges m t p (count - 1) (pair (width e₃.endpoint) e₃ s₂ second) (pair (width e₃.endpoint) e₄ s₄ last) →
-      count ≡ needed m₀ → shown ≡ t.shown s₄.endpoint.sink → Brought m t p m₀ s₀ octets shown e₄ s₄
-  brought law e₁ e₂ e₃ e₄ s₂ s₄ buffer first second last shown sessions j₀ j₁ j j' k k' r count resetting one setting rest count_is shown_is =
+  pub brought : Lawful t → (sessions shown : List ℕ) (e₄ : Master S) (s₄ : Slave T P) (j j' k k' : Journal Line) →
+      ByCalls m t p m₀ s₀ sessions octets e₄ s₄ j j' k k' → shown ≡ t.shown s₄.endpoint.sink → Brought m t p m₀ s₀ sessions octets shown e₄ s₄ j j' k k'
+  brought law sessions shown e₄ s₄ j j' k k' calls shown_is =
       let d : ℕ = width m₀.endpoint in
-      let same₁ : width e₁.endpoint ≡ d = ap width resetting.0.1 in
-      let same₃ : width e₃.endpoint ≡ d = ap (λ (l : Link). l.size.octets) setting.0.1 ∙ one.master_width ∙ same₁ in
-      let first_exchange : Exchanged m t p (pair d e₁ s₀ first) (pair d e₂ s₂ second) =
-      subst (λ n. Exchanged m t p (pair n e₁ s₀ first) (pair n e₂ s₂ second)) same₁ one.exchanged in
-      behind law e₄ s₄ _ shown shown_is
-      (set (reset buffer first j₀ j₁ r resetting) first_exchange setting)
-      (subst (λ n. Exchanges m t p (count - 1) (pair n e₃ s₂ second) (pair n e₄ s₄ last)) same₃ rest)
-      (omega (arith, count_is))
+      let e₁ = calls.after_reset in
+      let e₃ = calls.after_setting in
+      let two = calls.second in
+      let same₁ : width e₁.endpoint ≡ d = ap width calls.resets.0.1 in
+      let same₃ : width e₃.endpoint ≡ d = ap (λ (l : Link). l.size.octets) calls.sets.0.1 ∙ calls.one.master_width ∙ same₁ in
+      let first_exchange : Exchanged m t p (pair d e₁ s₀ calls.first) (pair d two.master two.slave two.buffer) =
+      subst (λ n. Exchanged m t p (pair n e₁ s₀ calls.first) (pair n two.master two.slave two.buffer)) same₁ calls.one.exchanged in
+      let some : 3 ≤ needed m₀ = omega arith in
+      behind law sessions e₄ s₄ _ shown j j' k k' calls shown_is
+      (set (reset (replicate 67 0) calls.first j calls.journal_after_reset calls.answer calls.resets) first_exchange calls.sets)
+      (exchanges_of m t p sessions d same₃ calls.rest)
+      (omega (arith, some))

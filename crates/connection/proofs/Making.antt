@@ -19,8 +19,9 @@ use Rattle.master_end.specs.Matching as masters
 use Rattle.slave_end.specs.declared.slave.Slave.{Slave}
 use Rattle.slave_end.specs.Calls as slave
 use Rattle.slave_end.specs.Matching as slaves
-use Rattle.connection.specs.Exchanges.{Exchanged, Exchanges, none, more}
-use Rattle.connection.specs.Driving.{pair, Made}
+use Rattle.connection.specs.Exchanges as exchanges
+use Rattle.connection.specs.Exchanges.{Exchanged, Exchanges}
+use Rattle.connection.specs.Driving.{pair, Held, Made, InOrder, none, more}
 use Rattle.connection.proofs.Sizes.{sized_after, slave_sized, master_sized}
 
 -- a frame that is not refused is whole
@@ -79,6 +80,7 @@ module _ {S T P N L U : Type 0} (m : sink.Ghosts S) (t : sink.Ghosts T) (p : pro
           slave_journal_after_is = refl;
           buffer_is = refl;
           reply_is = refl;
+          same_width = same_width;
           master_width =
               ap width two.2.endpoint_is
               ∙ sized_after m e.endpoint (masters.asked e back (get_or sessions 0 0))
@@ -94,25 +96,19 @@ module _ {S T P N L U : Type 0} (m : sink.Ghosts S) (t : sink.Ghosts T) (p : pro
     accepted whole-reply x two =
         never (width e.endpoint) back (replicate 67 0) x (ap length back_is ∙ length-take-le _ reply (omega (arith, low))) (omega (arith, low)) two.0
 
--- so many exchanges were made, and the data lengths are as they were
-module _ {S T P N L U : Type 0} (m : sink.Ghosts S) (t : sink.Ghosts T) (p : profile.Ghosts P N L U) (e : Master S) (f : Slave T P) (buffer : List ℕ) where
-  pub record Repeated (n : ℕ) (e' : Master S) (f' : Slave T P) (buffer' : List ℕ) : Type 0 where
-    pub exchanges : Exchanges m t p n (pair (width e.endpoint) e f buffer) (pair (width e.endpoint) e' f' buffer')
-    pub master_width : width e'.endpoint ≡ width e.endpoint
-    pub slave_width : width f'.endpoint ≡ width f.endpoint
+-- exchanges in order, with the frames alone: all have the data length of the first
+module _ {S T P N L U : Type 0} (m : sink.Ghosts S) (t : sink.Ghosts T) (p : profile.Ghosts P N L U) (sessions : List ℕ) where
+  pub same_length : {n : ℕ} {a b : Held S T P} → InOrder m t p sessions n a b → width b.master.endpoint ≡ width a.master.endpoint
+  same_length none = refl
+  same_length (more before one) = one.master_width ∙ same_length before
 
-  pub repeated_none : Repeated 0 e f buffer
-  repeated_none = record { exchanges = none; master_width = refl; slave_width = refl }
+  pub exchanges_of : {n : ℕ} {a b : Held S T P} → (d : ℕ) → width a.master.endpoint ≡ d → InOrder m t p sessions n a b →
+      Exchanges m t p n (pair d a.master a.slave a.buffer) (pair d b.master b.slave b.buffer)
+  exchanges_of d is none = exchanges.none
+  exchanges_of d is (more {b = b} {c = c} before one) =
+      exchanges.more (exchanges_of d is before)
+      (subst (λ w. Exchanged m t p (pair w b.master b.slave b.buffer) (pair w c.master c.slave c.buffer)) (same_length before ∙ is) one.exchanged)
 
-  pub repeated_more : (n : ℕ) (e₁ e₂ : Master S) (f₁ f₂ : Slave T P) (sessions buffer₁ buffer₂ : List ℕ) (j j' k k' : Journal Line) →
-      Repeated n e₁ f₁ buffer₁ → Made m t p e₁ f₁ sessions buffer₁ buffer₂ e₂ f₂ j j' k k' → Repeated (n + 1) e₂ f₂ buffer₂
-  repeated_more n e₁ e₂ f₁ f₂ sessions buffer₁ buffer₂ j j' k k' before one =
-      let d : ℕ = width e.endpoint in
-      record {
-        exchanges =
-            subst (λ c. Exchanges m t p c (pair d e f buffer) (pair d e₂ f₂ buffer₂)) (sym (add-one n))
-            (more before.exchanges
-            (subst (λ w. Exchanged m t p (pair w e₁ f₁ buffer₁) (pair w e₂ f₂ buffer₂)) before.master_width one.exchanged));
-        master_width = one.master_width ∙ before.master_width;
-        slave_width = one.slave_width ∙ before.slave_width;
-      }
+  pub one_more : (n : ℕ) (a b c : Held S T P) → InOrder m t p sessions n a b →
+      Made m t p b.master b.slave sessions b.buffer c.buffer c.master c.slave b.master_journal c.master_journal b.slave_journal c.slave_journal → InOrder m t p sessions (n + 1) a c
+  one_more n a b c before one = subst (λ k. InOrder m t p sessions k a c) (sym (add-one n)) (more {b = b} {c = c} before one)

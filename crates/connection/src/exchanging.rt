@@ -39,7 +39,7 @@ pub fn repeat<S: Sink, T: Sink, P: Profile>(
     master_journal: &mut Journal<'_, Line>,
     slave_journal: &mut Journal<'_, Line>,
 ) -> Result<[u8; 67], Refusal>
-    ensures { Repeating S.Sink T.Sink P.Profile master.old slave.old count first result master.new slave.new }
+    ensures { Repeating S.Sink T.Sink P.Profile master.old slave.old sessions count first result master.new slave.new master_journal.old master_journal.new slave_journal.old slave_journal.new }
 {
     let mut latest = first;
     for _made in 0..count {

@@ -34,7 +34,7 @@ pub fn bring_back<S: Sink, T: Sink, P: Profile>(
     master_journal: &mut Journal<'_, Line>,
     slave_journal: &mut Journal<'_, Line>,
 ) -> Result<[u8; 32], Refusal>
-    ensures { Bringing S.Sink T.Sink P.Profile master.old slave.old octets.now result master.new slave.new master_journal.old master_journal.new slave_journal.old slave_journal.new }
+    ensures { Bringing S.Sink T.Sink P.Profile master.old slave.old sessions octets.now result master.new slave.new master_journal.old master_journal.new slave_journal.old slave_journal.new }
 {
     let d = master.size().octets();
     if octets.len() != d {
