@@ -2,6 +2,9 @@
 // The plan then makes its one master, and the dismissed master gives it back. Each action is printed.
 #![tactic(auto)]
 
+ghost use Rattle.std.specs.Prelude.{◌≡◌, IfOk};
+ghost use Rattle.commissioned.specs.Commissioned.{Unused, Commissioned};
+
 use anyhow::anyhow;
 use codes::refusal::Refusal;
 use length::DataLength;
@@ -12,7 +15,9 @@ use sinks::Bank;
 // The user parameter octets of the module: one number, 500.
 const USER: [u8; 16] = [0xF4, 0x01, 0, 0, 0, 0, 0, 0, 0, 0, 0, 0, 0, 0, 0, 0];
 
-pub fn commission(rt: &HostRuntime) -> anyhow::Result<Master<Bank>> {
+pub fn commission(rt: &HostRuntime) -> anyhow::Result<Master<Bank>>
+    ensures { IfOk result Commissioned }
+{
     println!(rt; "module 'proofer fan', slave address 85")?;
     let length = choose_length(rt)?;
     let draft = Draft {
@@ -41,7 +46,9 @@ pub fn commission(rt: &HostRuntime) -> anyhow::Result<Master<Bank>> {
 }
 
 // Asks for an unlawful length, then for a lawful one.
-fn choose_length(rt: &HostRuntime) -> anyhow::Result<DataLength> {
+fn choose_length(rt: &HostRuntime) -> anyhow::Result<DataLength>
+    ensures { IfOk result (λ l. l.octets ≡ 4) }
+{
     match DataLength::new(5) {
         Ok(_) => return Err(anyhow!("5 data octets were not refused")),
         Err(refusal) => println!(rt; "ask for 5 data octets: refused with {refusal}")?,
@@ -56,7 +63,9 @@ fn choose_length(rt: &HostRuntime) -> anyhow::Result<DataLength> {
 }
 
 // Tries to seal a draft that has a mistake, and hands it back for correction.
-fn seal_mistaken(rt: &HostRuntime, draft: Draft) -> anyhow::Result<Draft> {
+fn seal_mistaken(rt: &HostRuntime, draft: Draft) -> anyhow::Result<Draft>
+    ensures { IfOk result (λ d. d ≡ draft) }
+{
     match draft.seal() {
         Ok(_) => Err(anyhow!("a mistaken draft was sealed")),
         Err(unsealed) => {
@@ -67,7 +76,9 @@ fn seal_mistaken(rt: &HostRuntime, draft: Draft) -> anyhow::Result<Draft> {
     }
 }
 
-fn seal_corrected(rt: &HostRuntime, draft: Draft) -> anyhow::Result<SealedPlan> {
+fn seal_corrected(rt: &HostRuntime, draft: Draft) -> anyhow::Result<SealedPlan>
+    ensures { IfOk result (λ p. p.draft ≡ draft) }
+{
     match draft.seal() {
         Ok(plan) => {
             println!(rt; "seal: sealed")?;
@@ -79,7 +90,9 @@ fn seal_corrected(rt: &HostRuntime, draft: Draft) -> anyhow::Result<SealedPlan> 
 }
 
 // The plan makes its one master, with a bank for the inputs.
-fn make_master(rt: &HostRuntime, plan: SealedPlan) -> anyhow::Result<Master<Bank>> {
+fn make_master(rt: &HostRuntime, plan: SealedPlan) -> anyhow::Result<Master<Bank>>
+    ensures { IfOk result (λ m. (m.plan ≡ plan) × Unused m) }
+{
     let id = plan.id();
     println!(rt; "make the master of connection {id}: the sealed plan is used up")?;
     let inputs = Bank::new();

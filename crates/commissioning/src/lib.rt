@@ -2,6 +2,8 @@
 // The plan then makes its master, and the dismissed master gives it back. Each action is printed.
 #![tactic(auto)]
 
+ghost use Rattle.std.specs.Prelude.{◌≡◌, IfOk};
+
 use anyhow::anyhow;
 use codes::refusal::Refusal;
 use length::DataLength;
@@ -37,7 +39,9 @@ pub fn commission(rt: &HostRuntime) -> anyhow::Result<()> {
 }
 
 // Asks for an unlawful length, then for a lawful one.
-fn choose_length(rt: &HostRuntime) -> anyhow::Result<DataLength> {
+fn choose_length(rt: &HostRuntime) -> anyhow::Result<DataLength>
+    ensures { IfOk result (λ l. l.octets ≡ 4) }
+{
     match DataLength::new(5) {
         Ok(_) => return Err(anyhow!("5 data octets were not refused")),
         Err(refusal) => println!(rt; "ask for 5 data octets: refused with {refusal}")?,
@@ -52,7 +56,9 @@ fn choose_length(rt: &HostRuntime) -> anyhow::Result<DataLength> {
 }
 
 // Tries to seal a draft that has a mistake, and hands it back for correction.
-fn seal_mistaken(rt: &HostRuntime, draft: Draft) -> anyhow::Result<Draft> {
+fn seal_mistaken(rt: &HostRuntime, draft: Draft) -> anyhow::Result<Draft>
+    ensures { IfOk result (λ d. d ≡ draft) }
+{
     match draft.seal() {
         Ok(_) => Err(anyhow!("a mistaken draft was sealed")),
         Err(unsealed) => {
@@ -63,7 +69,9 @@ fn seal_mistaken(rt: &HostRuntime, draft: Draft) -> anyhow::Result<Draft> {
     }
 }
 
-fn seal_corrected(rt: &HostRuntime, draft: Draft) -> anyhow::Result<SealedPlan> {
+fn seal_corrected(rt: &HostRuntime, draft: Draft) -> anyhow::Result<SealedPlan>
+    ensures { IfOk result (λ p. p.draft ≡ draft) }
+{
     match draft.seal() {
         Ok(plan) => {
             println!(rt; "seal: sealed")?;
