@@ -73,7 +73,7 @@ module _ {S T P N L U : Type 0} (m : sink.Ghosts S) (t : sink.Ghosts T) (p : pro
   -- so many exchanges are made; that is refused only where the data lengths differ, and then nothing is done
   abbrev pub Repeating : (sessions : List ℕ) → (count : ℕ) → (buffer : List ℕ) → Result (List ℕ) Refusal → Master S → Slave T P → (j j' k k' : Journal Line) → Type 0
   Repeating sessions count buffer (Ok buffer') e' f' j j' k k' = InOrder m t p sessions count (held e f buffer j k) (held e' f' buffer' j' k')
-  Repeating sessions count buffer (Err x) e' f' j j' k k' = (width f.endpoint ≢ width e.endpoint) × Untouched m t p e f e' f' j j' k k'
+  Repeating sessions count buffer (Err x) e' f' j j' k k' = (width f.endpoint ≢ width e.endpoint) × (x ≡ WrongFrameLength) × Untouched m t p e f e' f' j j' k k'
 
   -- what speaks against bringing the connection back: another number of octets than the data length says, then a slave of
   -- another data length
