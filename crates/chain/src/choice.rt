@@ -15,6 +15,7 @@ pub struct Choice {
 }
 
 // What a number is chosen by: the number to try, the old CRC_0, the latest CRC_0 either way, and the frame's content.
+// The command is an octet, since the CRCs of a frame that came in are over whatever octet stands there.
 #[derive(Clone, Copy)]
 pub struct Trial {
     pub tried: u16,
@@ -28,13 +29,13 @@ pub struct Trial {
 
 impl Trial {
     // The number tried, or the one after it where its CRC_0 would be the old one.
+    #[tactic(auto, using(crate::proofs::Passing::next_apart), unfolding(crate::specs::Numbers::used))]
     pub fn choose(self) -> Choice
         ensures at { At self (chosen self) result }
         ensures differs { Differs self result }
     {
         let choice = self.at(self.tried);
-        let clashes = passes(self.command) & (choice.crc == self.old);
-        if clashes {
+        if passes(self.command) && choice.crc == self.old {
             self.at(next(self.tried))
         } else {
             choice
@@ -58,12 +59,15 @@ impl Trial {
 pub fn next(n: u16) -> u16
     ensures { result ≡ next n }
 {
-    if n == 65_535 { 1 } else { n + 1 }
+    n.checked_add(1).unwrap_or(1)
 }
 
 // Whether a frame with this command passes over a number.
 fn passes(command: u8) -> bool
     ensures { result ≡ passes command }
 {
-    !(command == Command::Reset.octet() || command == Command::Session.octet())
+    !matches!(
+        Command::try_from(command),
+        Ok(Command::Reset | Command::Session)
+    )
 }

@@ -2,18 +2,19 @@
 ghost use Rattle.std.specs.Prelude.{◌≡◌, Some};
 ghost use Rattle.codes.specs.Refusals.{number, meaning, printed};
 
+use std::error::Error;
 use std::fmt;
 
 #[derive(Clone, Copy, Debug, PartialEq, Eq)]
 pub enum Refusal {
-    WrongFrameLength,
-    ShortReplyBuffer,
-    WrongDataCount,
-    ZeroConnectionId,
-    UnlawfulLength,
-    ZeroWatchdog,
-    TooManyUserOctets,
-    SinkDown,
+    WrongFrameLength = 21,
+    ShortReplyBuffer = 22,
+    WrongDataCount = 23,
+    ZeroConnectionId = 31,
+    UnlawfulLength = 32,
+    ZeroWatchdog = 33,
+    TooManyUserOctets = 34,
+    SinkDown = 41,
 }
 
 impl Refusal {
@@ -21,16 +22,7 @@ impl Refusal {
     pub fn number(self) -> u16
         ensures { result ≡ number self }
     {
-        match self {
-            Refusal::WrongFrameLength => 21,
-            Refusal::ShortReplyBuffer => 22,
-            Refusal::WrongDataCount => 23,
-            Refusal::ZeroConnectionId => 31,
-            Refusal::UnlawfulLength => 32,
-            Refusal::ZeroWatchdog => 33,
-            Refusal::TooManyUserOctets => 34,
-            Refusal::SinkDown => 41,
-        }
+        self as u16
     }
 
     // What was wrong, in words.
@@ -55,8 +47,8 @@ impl fmt::Display for Refusal {
     ghost output = { λ r. Some (printed r) };
 
     fn fmt<W: fmt::Write>(&self, f: &mut fmt::Formatter<W>) -> fmt::Result {
-        let number = self.number();
-        let meaning = self.meaning();
-        write!(f, "{number}: {meaning}")
+        write!(f, "{}: {}", self.number(), self.meaning())
     }
 }
+
+impl Error for Refusal {}

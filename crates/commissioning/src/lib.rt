@@ -3,6 +3,7 @@
 #![tactic(auto)]
 
 ghost use Rattle.std.specs.Prelude.{◌≡◌, IfOk};
+ghost use Rattle.commissioning.specs.Planned.{Planned};
 
 use anyhow::anyhow;
 use codes::refusal::Refusal;
@@ -11,6 +12,14 @@ use master::Master;
 use plan::{Draft, SealedPlan};
 
 pub fn commission(rt: &HostRuntime) -> anyhow::Result<()> {
+    let plan = draft_plan(rt)?;
+    use_once(rt, plan)
+}
+
+// The plan of the module, drafted with mistakes, corrected and sealed.
+pub fn draft_plan(rt: &HostRuntime) -> anyhow::Result<SealedPlan>
+    ensures { IfOk result Planned }
+{
     println!(rt; "module 'proofer fan', slave address 85")?;
     let length = choose_length(rt)?;
     let draft = Draft {
@@ -34,8 +43,7 @@ pub fn commission(rt: &HostRuntime) -> anyhow::Result<()> {
     println!(rt; "set the count of user octets to 2")?;
     draft.user_octets = 2;
 
-    let plan = seal_corrected(rt, draft)?;
-    use_once(rt, plan)
+    seal_corrected(rt, draft)
 }
 
 // Asks for an unlawful length, then for a lawful one.
@@ -46,13 +54,9 @@ fn choose_length(rt: &HostRuntime) -> anyhow::Result<DataLength>
         Ok(_) => return Err(anyhow!("5 data octets were not refused")),
         Err(refusal) => println!(rt; "ask for 5 data octets: refused with {refusal}")?,
     }
-    match DataLength::new(4) {
-        Ok(length) => {
-            println!(rt; "ask for 4 data octets: granted")?;
-            Ok(length)
-        }
-        Err(refusal) => Err(anyhow!(refusal.meaning())),
-    }
+    let length = DataLength::new(4)?;
+    println!(rt; "ask for 4 data octets: granted")?;
+    Ok(length)
 }
 
 // Tries to seal a draft that has a mistake, and hands it back for correction.
@@ -72,14 +76,10 @@ fn seal_mistaken(rt: &HostRuntime, draft: Draft) -> anyhow::Result<Draft>
 fn seal_corrected(rt: &HostRuntime, draft: Draft) -> anyhow::Result<SealedPlan>
     ensures { IfOk result (λ p. p.draft ≡ draft) }
 {
-    match draft.seal() {
-        Ok(plan) => {
-            println!(rt; "seal: sealed")?;
-            println!(rt; "sealed plan: {plan}")?;
-            Ok(plan)
-        }
-        Err(unsealed) => Err(anyhow!(unsealed.refusal.meaning())),
-    }
+    let plan = draft.seal()?;
+    println!(rt; "seal: sealed")?;
+    println!(rt; "sealed plan: {plan}")?;
+    Ok(plan)
 }
 
 // The plan makes its one master; dismissing that opens the plan again.

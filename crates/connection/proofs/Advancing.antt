@@ -17,9 +17,9 @@ use Rattle.outlet.specs.declared.Outlet.{Outlet}
 use Rattle.outlet.specs.declared.blocks.Block.{Block}
 use Rattle.outlet.specs.declared.blocks.Block.TheVariants.{Connection, Parameter}
 use Rattle.outlet.specs.Blocks.{piece, state_of, command_of, count_of, contents}
-use Rattle.outlet.specs.Steps.{with_at, data_out, next_out}
+use Rattle.outlet.specs.Steps.{with_at, next_out}
 use Rattle.master_end.specs.Matching as master
-use Rattle.outlet.proofs.Lengths.{length_contents}
+use Rattle.outlet.proofs.Lengths.{length_contents, length_piece}
 use Rattle.inlet.specs.declared.Inlet.{Inlet}
 use Rattle.inlet.specs.Storing.{placed, with_piece}
 use Rattle.slave_end.specs.Matching as slave
@@ -31,8 +31,8 @@ use Rattle.connection.proofs.Carrying as carrying
 use Rattle.connection.proofs.Carrying.{Carried}
 use Rattle.connection.proofs.Stages.{bounded, piece_of, Stored, stored_so_far, Sending, Ready, piece_out_is, echoes, next, first_parameter}
 
-module _ {S T P N L U : Type 0} (m : sink.Ghosts S) (t : sink.Ghosts T) (p : profile.Ghosts P N L U) (m₀ : Master S) (octets : List ℕ)
-    (same_count : p.numbers.octets ≡ m₀.plan.draft.user_octets) (a b : Pair S T P) (ex : Exchanged m t p a b)
+module _ {S T P : Type 0} (m : sink.Ghosts S) (t : sink.Ghosts T) (p : profile.Ghosts P) (m₀ : Master S) (octets : List ℕ)
+    (same_count : p.USER_OCTETS ≡ m₀.plan.draft.user_octets) (a b : Pair S T P) (ex : Exchanged m t p a b)
     (k : Block) (at : ℕ) (h : Sending m₀ t octets k at a) where
   abbrev d : ℕ
   d = width m₀.endpoint
@@ -53,7 +53,7 @@ module _ {S T P N L U : Type 0} (m : sink.Ghosts S) (t : sink.Ghosts T) (p : pro
   place = omega (arith, h.within, pieces.few m₀.plan k)
 
   room : length out_now ≡ 32
-  room = pieces.piece_length d at (bounded m₀).high place block all
+  room = length_piece d at block all (bounded m₀).high
 
   again : take d out_now ++ replicate (32 - d) 0 ≡ out_now
   again = pieces.piece_again d at (bounded m₀).high place block all
@@ -102,12 +102,12 @@ module _ {S T P N L U : Type 0} (m : sink.Ghosts S) (t : sink.Ghosts T) (p : pro
 
   -- then another frame of the master is out
   sends : (st : _) (c₂ : _) (o₂ : List ℕ) (out₂ : Outlet) → out₂.user ≡ a.master.outlet.user →
-      next_out master_read a.master.outlet a.master.plan k
-      ≡ taken st Keep (record { from = master_read.numbers; id = i; command = c₂; octets = o₂ }) (after_writing master_read i c₂ o₂) out₂ →
+      ((l : Link) → l.size.octets ≡ d → l.outputs ≡ a.master.endpoint.link.outputs → l.command ≡ a.master.endpoint.link.command → next_out l a.master.outlet a.master.plan k
+      ≡ taken st Keep (record { from = l.numbers; id = i; command = c₂; octets = o₂ }) (after_writing l i c₂ o₂) out₂) →
       Carried t m₀ octets b (state_of k) inlet st out₂ i c₂ o₂
   sends st c₂ o₂ out₂ user is =
       carrying.carried m t p m₀ octets a b ex h.kept (state_of k) Keep slave_read.numbers i (command_of k) out_now slave_link inlet does room meets
-      st i c₂ o₂ out₂ (goes_on ∙ is) refl refl refl user h.kept.up_is h.kept.dark_is
+      st i c₂ o₂ out₂ (goes_on ∙ is master_read h.kept.master_width refl refl) refl refl refl user h.kept.up_is h.kept.dark_is
 
   -- the slave has stored the piece
   stores : b.slave.endpoint.state ≡ state_of k → b.slave.inlet ≡ inlet → Stored m₀ k (at + d) b.slave
@@ -122,17 +122,13 @@ module _ {S T P N L U : Type 0} (m : sink.Ghosts S) (t : sink.Ghosts T) (p : pro
             ∙ pieces.piece_stored d at (bounded m₀).high place block all a.slave.inlet.block (stored_so_far m₀ h.awaits);
       }
 
-  next_at : a.master.outlet.at + width a.master.endpoint ≡ at + d
-  next_at = (λ j. h.at_is j + h.kept.master_width j)
-
-  same_total : count_of a.master.plan k ≡ count_of m₀.plan k
-  same_total = ap (λ q. count_of q k) h.kept.plan_is
-
   -- the next piece of the block
   pub on_to_next : at + d < count_of m₀.plan k → Sending m₀ t octets k (at + d) b
   on_to_next more =
+      let same_total : count_of a.master.plan k ≡ count_of m₀.plan k = ap (λ q. count_of q k) h.kept.plan_is in
       let r = sends (state_of k) (command_of k) (piece_of m₀ k (at + d)) (with_at a.master.outlet (at + d)) refl
-      (sending.more master_read a.master.outlet a.master.plan k (omega (arith, next_at, same_total)) ∙ piece_out_is m₀ t octets a h.kept master_read h.kept.master_width k _ (at + d) next_at) in
+      (λ l size os cm. let next_at : a.master.outlet.at + l.size.octets ≡ at + d = (λ j. h.at_is j + size j) in
+      sending.more l a.master.outlet a.master.plan k (omega (arith, next_at, same_total)) ∙ piece_out_is m₀ t octets a h.kept l size k _ (at + d) next_at) in
       record {
         kept = r.kept;
         state_is = r.master_state;
@@ -142,15 +138,14 @@ module _ {S T P N L U : Type 0} (m : sink.Ghosts S) (t : sink.Ghosts T) (p : pro
         awaits = next (stores r.slave_state r.inlet_is);
       }
 
-module _ {S T P N L U : Type 0} (m : sink.Ghosts S) (t : sink.Ghosts T) (p : profile.Ghosts P N L U) (m₀ : Master S) (octets : List ℕ)
-    (same_count : p.numbers.octets ≡ m₀.plan.draft.user_octets) (a b : Pair S T P) (ex : Exchanged m t p a b) (at : ℕ) where
+module _ {S T P : Type 0} (m : sink.Ghosts S) (t : sink.Ghosts T) (p : profile.Ghosts P) (m₀ : Master S) (octets : List ℕ)
+    (same_count : p.USER_OCTETS ≡ m₀.plan.draft.user_octets) (a b : Pair S T P) (ex : Exchanged m t p a b) (at : ℕ) where
   -- behind the connection block, the first piece of the parameter block
   pub on_to_parameter : Sending m₀ t octets Connection at a → 4 ≤ at + width m₀.endpoint → Sending m₀ t octets Parameter 0 b
   on_to_parameter h full =
       let r = sends m t p m₀ octets same_count a b ex Connection at h s.Parameter c.Parameter (piece_of m₀ Parameter 0) (with_at a.master.outlet 0) refl
-      (sending.done (master_read m t p m₀ octets same_count a b ex Connection at h) a.master.outlet a.master.plan Connection
-      (omega (arith, next_at m t p m₀ octets same_count a b ex Connection at h))
-      ∙ piece_out_is m₀ t octets a h.kept (master_read m t p m₀ octets same_count a b ex Connection at h) h.kept.master_width Parameter 0 0 refl) in
+      (λ l size os cm. sending.done l a.master.outlet a.master.plan Connection (omega (arith, size, h.at_is))
+      ∙ piece_out_is m₀ t octets a h.kept l size Parameter 0 0 refl) in
       record {
         kept = r.kept;
         state_is = r.master_state;
@@ -163,19 +158,14 @@ module _ {S T P N L U : Type 0} (m : sink.Ghosts S) (t : sink.Ghosts T) (p : pro
   -- behind the parameter block, the first data frame
   pub on_to_data : Sending m₀ t octets Parameter at a → 6 + m₀.plan.draft.user_octets ≤ at + width m₀.endpoint → Ready m₀ t octets b
   on_to_data h full =
-      let l : Link = master_read m t p m₀ octets same_count a b ex Parameter at h in
       let o : List ℕ = octets ++ replicate (32 - width m₀.endpoint) 0 in
-      let data_is : data_out l a.master.outlet a.master.plan Keep
-      ≡ taken s.Data Keep (record { from = l.numbers; id = m₀.plan.draft.id; command = c.ProcessData; octets = o })
-      (after_writing l m₀.plan.draft.id c.ProcessData o) a.master.outlet =
-      (λ j. let q : DataCommand = h.kept.command_is j in
-      let w : List ℕ = h.kept.outputs_are j in
-      taken s.Data Keep (record { from = l.numbers; id = (h.kept.plan_is j).draft.id; command = frame_command q; octets = carried q w })
-      (after_writing l (h.kept.plan_is j).draft.id (frame_command q) (carried q w)) a.master.outlet) in
+      let same_total : count_of a.master.plan Parameter ≡ count_of m₀.plan Parameter = ap (λ q. count_of q Parameter) h.kept.plan_is in
       let r = sends m t p m₀ octets same_count a b ex Parameter at h s.Data c.ProcessData o a.master.outlet refl
-      (sending.done l a.master.outlet a.master.plan Parameter
-      (omega (arith, next_at m t p m₀ octets same_count a b ex Parameter at h, same_total m t p m₀ octets same_count a b ex Parameter at h))
-      ∙ data_is) in
+      (λ l size os cm. sending.done l a.master.outlet a.master.plan Parameter (omega (arith, size, h.at_is, same_total))
+      ∙ (λ j. let q : DataCommand = (cm ∙ h.kept.command_is) j in
+      let w : List ℕ = (os ∙ h.kept.outputs_are) j in
+      taken s.Data Keep (record { from = l.numbers; id = (h.kept.plan_is j).draft.id; command = frame_command q; octets = carried q w })
+      (after_writing l (h.kept.plan_is j).draft.id (frame_command q) (carried q w)) a.master.outlet)) in
       record {
         kept = r.kept;
         out = r.out;

@@ -15,22 +15,22 @@ use Rattle.profile.specs.Verdicts as verdicts
 use Rattle.shared_end.specs.declared.link.Link.{Link}
 use Rattle.shared_end.specs.declared.step.Act.TheVariants as a
 use Rattle.shared_end.specs.Endpoints.{width}
-use Rattle.shared_end.specs.Outcomes.{Outcome, fault}
+use Rattle.shared_end.specs.Outcomes.{unless, Outcome, fault}
 use Rattle.inlet.specs.declared.Inlet.{Inlet}
 use Rattle.slave_end.specs.declared.slave.Slave.{Slave}
 use Rattle.inlet.specs.Storing.{word}
-use Rattle.inlet.specs.Steps.{echoed, answered, reset_answered, session_answered, data_answered, data_taken, unless}
+use Rattle.inlet.specs.Steps.{echoed, answered, reset_answered, session_answered, data_answered, data_taken}
 use Rattle.inlet.specs.Outcomes.{judgement, outcome}
 use Rattle.slave_end.specs.Matching.{asked}
 
 -- the outcome, by the state, the kind of the frame and its data octets
-pub asked_is : {T P N L U : Type 0} (p : Ghosts P N L U) (e : Slave T P) (f : List ℕ) (n : ℕ) (st : State) (k : Option Command) (piece : List ℕ) →
+pub asked_is : {T P : Type 0} (p : Ghosts P) (e : Slave T P) (f : List ℕ) (n : ℕ) (st : State) (k : Option Command) (piece : List ℕ) →
     e.endpoint.state ≡ st → command (command_octet f) ≡ k → padded (body (width e.endpoint) f) ≡ piece →
     asked p e f n ≡ outcome p e.endpoint.link e.inlet f piece st n k
 asked_is p e f n st k piece is_state is-kind is-piece =
     (λ i. outcome p e.endpoint.link e.inlet f (is-piece i) (is_state i) n (is-kind i))
 
-module _ {P N L U : Type 0} (p : Ghosts P N L U) (l : Link) (x : Inlet) (f piece : List ℕ) (n : ℕ) where
+module _ {P : Type 0} (p : Ghosts P) (l : Link) (x : Inlet) (f piece : List ℕ) (n : ℕ) where
   abbrev d : ℕ
   d = l.size.octets
 
@@ -69,9 +69,9 @@ module _ {P N L U : Type 0} (p : Ghosts P N L U) (l : Link) (x : Inlet) (f piece
         outcome p l x f piece s.Connection n (Some c.Connection) ≡ echoed l x f s.Connection c.Connection i at piece
     on_next_connection i at = further s.Connection c.Connection i 4 at
 
-    pub on_next_parameter : (i at : ℕ) → at < 6 + p.numbers.octets → x.stored ≡ at → x.id ≡ i → id d f ≡ i →
+    pub on_next_parameter : (i at : ℕ) → at < 6 + p.USER_OCTETS → x.stored ≡ at → x.id ≡ i → id d f ≡ i →
         outcome p l x f piece s.Parameter n (Some c.Parameter) ≡ echoed l x f s.Parameter c.Parameter i at piece
-    on_next_parameter i at = further s.Parameter c.Parameter i (6 + p.numbers.octets) at
+    on_next_parameter i at = further s.Parameter c.Parameter i (6 + p.USER_OCTETS) at
 
     -- the first piece of the parameter block
     pub on_first_parameter : (i : ℕ) → 4 ≤ x.stored → x.id ≡ i → id d f ≡ i → word x.block 2 ≡ x.address →
@@ -86,20 +86,20 @@ module _ {P N L U : Type 0} (p : Ghosts P N L U) (l : Link) (x : Inlet) (f piece
         ∙ ap (λ j. echoed l x f s.Parameter c.Parameter j 0 piece) kept
 
     -- the first data frame, behind a parameter block in which nothing is wrong
-    pub on_first_data : (w : ℕ) → 6 + p.numbers.octets ≤ x.stored → id d f ≡ x.id → word x.block 0 ≡ 2 → word x.block 2 ≡ w →
-        p.numbers.lowest ≤ w → w ≤ p.numbers.highest → word x.block 4 ≡ p.numbers.octets →
-        p.judged (take p.numbers.octets (drop 6 x.block)) ≡ Accepted →
+    pub on_first_data : (w : ℕ) → 6 + p.USER_OCTETS ≤ x.stored → id d f ≡ x.id → word x.block 0 ≡ 2 → word x.block 2 ≡ w →
+        p.LOWEST_WATCHDOG ≤ w → w ≤ p.HIGHEST_WATCHDOG → word x.block 4 ≡ p.USER_OCTETS →
+        p.judged (take p.USER_OCTETS (drop 6 x.block)) ≡ Accepted →
         outcome p l x f piece s.Parameter n (Some c.ProcessData) ≡ data_answered l x f (a.Release piece) (word x.block 2)
     on_first_data w done is two time lowest highest count accepted =
-        let low : leb p.numbers.lowest (word x.block 2) ≡ true = le-leb _ _ (omega (arith, time, lowest)) in
-        let high : leb (word x.block 2) p.numbers.highest ≡ true = le-leb _ _ (omega (arith, time, highest)) in
-        let e₁ : ltb x.stored (6 + p.numbers.octets) ≡ false = le-ltb _ _ done in
+        let low : leb p.LOWEST_WATCHDOG (word x.block 2) ≡ true = le-leb _ _ (omega (arith, time, lowest)) in
+        let high : leb (word x.block 2) p.HIGHEST_WATCHDOG ≡ true = le-leb _ _ (omega (arith, time, highest)) in
+        let e₁ : ltb x.stored (6 + p.USER_OCTETS) ≡ false = le-ltb _ _ done in
         let e₂ : not (eqb (id d f) x.id) ≡ false = ap not (eq-eqb _ _ is) in
         let e₃ : not (eqb (word x.block 0) 2) ≡ false = ap not (eq-eqb _ _ two) in
-        let e₄ : not (leb p.numbers.lowest (word x.block 2) && leb (word x.block 2) p.numbers.highest) ≡ false = ap not (and_from _ _ low high) in
-        let e₅ : not (eqb (word x.block 4) p.numbers.octets) ≡ false = ap not (eq-eqb _ _ count) in
+        let e₄ : not (leb p.LOWEST_WATCHDOG (word x.block 2) && leb (word x.block 2) p.HIGHEST_WATCHDOG) ≡ false = ap not (and_from _ _ low high) in
+        let e₅ : not (eqb (word x.block 4) p.USER_OCTETS) ≡ false = ap not (eq-eqb _ _ count) in
         let e₆ : judgement p x ≡ None = ap verdicts.fault accepted in
-        (λ i. unless l x f
+        (λ i. unless
         (cond (e₁ i) (Some InvalidCommand) (cond (e₂ i) (Some InvalidConnectionId) (cond (e₃ i) (Some InvalidParameterLength)
         (cond (e₄ i) (Some InvalidWatchdog) (cond (e₅ i) (Some InvalidUserLength) (e₆ i))))))
         (data_taken l x f (a.Release piece) (word x.block 2)))

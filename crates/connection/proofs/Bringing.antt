@@ -11,6 +11,7 @@ use Rattle.shared_end.specs.declared.link.Link.{Link}
 use Rattle.shared_end.specs.Endpoints.{width}
 use Rattle.master_end.specs.declared.master.Master.{Master}
 use Rattle.slave_end.specs.declared.slave.Slave.{Slave}
+use Rattle.connection.specs.declared.exchanging.Sessions.{Sessions}
 use Rattle.connection.specs.Exchanges.{Pair, Exchanged, Exchanges, none, more, Undisturbed, reset, set, next}
 use Rattle.connection.specs.Returning.{needed}
 use Rattle.connection.specs.Driving.{pair, ByCalls, Brought}
@@ -27,13 +28,13 @@ nothing_against octets d w mine yours mine' yours' count same d-is mine-is w_is 
     let e₂ : eqb yours.octets mine.octets ≡ true = eq-eqb _ _ (sym your ∙ same ∙ my) in
     (λ i. cond (e₁ i) (cond (e₂ i) None (Some WrongFrameLength)) (Some WrongDataCount))
 
-module _ {S T P N L U : Type 0} (m : sink.Ghosts S) (t : sink.Ghosts T) (p : profile.Ghosts P N L U) (m₀ : Master S) (s₀ : Slave T P) (octets : List ℕ) where
+module _ {S T P : Type 0} (m : sink.Ghosts S) (t : sink.Ghosts T) (p : profile.Ghosts P) (m₀ : Master S) (s₀ : Slave T P) (octets : List ℕ) where
   -- exchanges behind the setting
   go_on : {k : ℕ} {a b : Pair S T P} → Undisturbed m t p octets m₀ s₀ 1 a → Exchanges m t p k a b → Undisturbed m t p octets m₀ s₀ (suc k) b
   go_on u none = u
   go_on u (more es ex) = next (go_on u es) ex
 
-  module _ (law : Lawful t) (sessions : List ℕ) (e : Master S) (f : Slave T P) (latest shown : List ℕ) (j j' k k' : Journal Line)
+  module _ (law : Lawful t) (sessions : Sessions) (e : Master S) (f : Slave T P) (latest shown : List ℕ) (j j' k k' : Journal Line)
       (calls : ByCalls m t p m₀ s₀ sessions octets e f j j' k k') (shown_is : shown ≡ t.shown f.endpoint.sink) where
     behind : {n : ℕ} {a : Pair S T P} → Undisturbed m t p octets m₀ s₀ 1 a → Exchanges m t p n a (record { master = e; slave = f; latest = latest }) → n + 1 ≡ needed m₀ →
         Brought m t p m₀ s₀ sessions octets shown e f j j' k k'
@@ -52,7 +53,7 @@ module _ {S T P N L U : Type 0} (m : sink.Ghosts S) (t : sink.Ghosts T) (p : pro
           lit = λ fits up. shown_is ∙ (comes_back m t law p m₀ s₀ fits up octets).lit (suc n) b (record { master = e; slave = f; latest = latest }) (go_on u es) ex count_is;
         }
 
-  pub brought : Lawful t → (sessions shown : List ℕ) (e₄ : Master S) (s₄ : Slave T P) (j j' k k' : Journal Line) →
+  pub brought : Lawful t → (sessions : Sessions) (shown : List ℕ) (e₄ : Master S) (s₄ : Slave T P) (j j' k k' : Journal Line) →
       ByCalls m t p m₀ s₀ sessions octets e₄ s₄ j j' k k' → shown ≡ t.shown s₄.endpoint.sink → Brought m t p m₀ s₀ sessions octets shown e₄ s₄ j j' k k'
   brought law sessions shown e₄ s₄ j j' k k' calls shown_is =
       let d : ℕ = width m₀.endpoint in

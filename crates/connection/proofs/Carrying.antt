@@ -16,7 +16,7 @@ use Rattle.shared_end.specs.declared.link.Link.{Link}
 use Rattle.shared_end.specs.declared.step.Act.{Act}
 use Rattle.shared_end.specs.declared.step.Act.TheVariants.{Keep}
 use Rattle.shared_end.specs.Link.{after_writing, after_reading}
-use Rattle.shared_end.specs.Outcomes.{taken}
+use Rattle.shared_end.specs.Outcomes.{Message, taken}
 use Rattle.shared_end.specs.Endpoints.{width, acted}
 use Rattle.master_end.specs.declared.master.Master.{Master}
 use Rattle.outlet.specs.declared.Outlet.{Outlet}
@@ -57,18 +57,28 @@ module _ {S T P : Type 0} (t : sink.Ghosts T) (m₀ : Master S) (octets : List �
     pub out : Out b i k w
     pub kept : Kept b
 
-module _ {S T P N L U : Type 0} (m : sink.Ghosts S) (t : sink.Ghosts T) (p : profile.Ghosts P N L U) (m₀ : Master S) (octets : List ℕ)
+-- what the two frames of an exchange leave, if they are taken
+module _ {S T P : Type 0} (m : sink.Ghosts S) (t : sink.Ghosts T) (p : profile.Ghosts P) (a b : Pair S T P) (ex : Exchanged m t p a b)
+    (st : State) (act : Act) (msg : Message) (l : Link) where
+  pub slave_took : (x : Inlet) → slave.asked p a.slave a.latest ex.slave_session ≡ taken st act msg l x →
+      Took t a.slave.endpoint st act msg l x b.slave.endpoint b.slave.inlet (take (frame_octets (width a.slave.endpoint)) ex.slave_reply)
+  slave_took x does =
+      took t a.slave.endpoint a.slave.inlet a.latest _ ex.slave_answer b.slave.endpoint b.slave.inlet ex.slave_buffer ex.slave_reply ex.slave_journal ex.slave_journal_after
+      ex.there.2 st act msg l x does
+
+  pub master_took : (o : Outlet) → master.asked a.master (take (frame_octets (width a.slave.endpoint)) ex.slave_reply) ex.master_session ≡ taken st act msg l o →
+      Took m a.master.endpoint st act msg l o b.master.endpoint b.master.outlet (take (frame_octets (width a.master.endpoint)) ex.master_reply)
+  master_took o does =
+      took m a.master.endpoint a.master.outlet _ _ ex.master_answer b.master.endpoint b.master.outlet ex.master_buffer ex.master_reply ex.master_journal ex.master_journal_after
+      ex.back.2 st act msg l o does
+
+module _ {S T P : Type 0} (m : sink.Ghosts S) (t : sink.Ghosts T) (p : profile.Ghosts P) (m₀ : Master S) (octets : List ℕ)
     (a b : Pair S T P) (ex : Exchanged m t p a b) (kept : Kept t m₀ octets a)
     (st : State) (act : Act) (ns : Numbers) (i₁ : ℕ) (k₁ : Command) (o₁ : List ℕ) (l₁ : Link) (x₁ : Inlet)
     (does : slave.asked p a.slave a.latest ex.slave_session ≡ taken st act (record { from = ns; id = i₁; command = k₁; octets = o₁ }) l₁ x₁)
     (room : length o₁ ≡ 32) (meets : InStep ns a.master.endpoint.link.numbers) where
   abbrev dl : ℕ
   dl = width m₀.endpoint
-
-  slave_took : Took t a.slave.endpoint st act (record { from = ns; id = i₁; command = k₁; octets = o₁ }) l₁ x₁ b.slave.endpoint b.slave.inlet
-      (take (frame_octets (width a.slave.endpoint)) ex.slave_reply)
-  slave_took = took t a.slave.endpoint a.slave.inlet a.latest _ ex.slave_answer b.slave.endpoint b.slave.inlet ex.slave_buffer ex.slave_reply ex.slave_journal ex.slave_journal_after
-      ex.there.2 st act _ l₁ x₁ does
 
   -- the slave's reply
   abbrev pub reply : List ℕ
@@ -78,7 +88,7 @@ module _ {S T P N L U : Type 0} (m : sink.Ghosts S) (t : sink.Ghosts T) (p : pro
   reply_handed =
       handed ns a.master.endpoint.link.numbers meets dl i₁ k₁ o₁ (bounds dl m₀.endpoint.link.size.lawful) room
       (width a.master.endpoint) reply kept.master_width
-      (slave_took.front_is ∙ ap (λ n. sent ns n i₁ (octet k₁) o₁) kept.slave_width)
+      ((slave_took m t p a b ex st act _ l₁ x₁ does).front_is ∙ ap (λ n. sent ns n i₁ (octet k₁) o₁) kept.slave_width)
 
   abbrev pub master_read : Link
   master_read = after_reading a.master.endpoint.link reply
@@ -89,44 +99,33 @@ module _ {S T P N L U : Type 0} (m : sink.Ghosts S) (t : sink.Ghosts T) (p : pro
       (written : l₁.numbers ≡ after_sending ns i₁ (octet k₁) o₁) (same_size : l₁.size.octets ≡ width a.slave.endpoint) (same_address : x₁.address ≡ a.slave.inlet.address)
       (same_user : out₂.user ≡ a.master.outlet.user)
       (still_up : t.up (acted t act a.slave.endpoint.sink) ≡ true) (still_dark : t.shown (acted t act a.slave.endpoint.sink) ≡ zeros) where
-    master_took : Took m a.master.endpoint st₂ Keep (record { from = master_read.numbers; id = i₂; command = k₂; octets = o₂ }) (after_writing master_read i₂ k₂ o₂) out₂ b.master.endpoint b.master.outlet
-        (take (frame_octets (width a.master.endpoint)) ex.master_reply)
-    master_took = took m a.master.endpoint a.master.outlet reply _ ex.master_answer b.master.endpoint b.master.outlet ex.master_buffer ex.master_reply ex.master_journal ex.master_journal_after
-        ex.back.2 st₂ Keep _ (after_writing master_read i₂ k₂ o₂) out₂ does₂
-
-    out_again : Out t m₀ octets b i₂ k₂ o₂
-    out_again =
-        record {
-          from = master_read.numbers;
-          latest_is = ex.latest_is ∙ master_took.front_is ∙ ap (λ n. sent master_read.numbers n i₂ (octet k₂) o₂) kept.master_width;
-          numbers_are = ap (λ (l : Link). l.numbers) master_took.link_is;
-          in_step =
-              turned _ _
-              (subst (λ n. InStep n master_read.numbers) (sym (ap (λ (l : Link). l.numbers) slave_took.link_is ∙ written)) reply_handed.again);
-        }
-
-    kept_again : Kept t m₀ octets b
-    kept_again =
-        record {
-          plan_is = ex.back.1 ∙ kept.plan_is;
-          user_is = ap (λ (o : Outlet). o.user) master_took.own_is ∙ same_user ∙ kept.user_is;
-          master_width = ap (λ (l : Link). l.size.octets) master_took.link_is ∙ kept.master_width;
-          slave_width = ap (λ (l : Link). l.size.octets) slave_took.link_is ∙ same_size ∙ kept.slave_width;
-          address_is = ap (λ (x : Inlet). x.address) slave_took.own_is ∙ same_address ∙ kept.address_is;
-          outputs_are = ap (λ (l : Link). l.outputs) master_took.link_is ∙ kept.outputs_are;
-          command_is = ap (λ (l : Link). l.command) master_took.link_is ∙ kept.command_is;
-          count_is = kept.count_is;
-          up_is = ap t.up slave_took.sink_is ∙ still_up;
-          dark_is = ap t.shown slave_took.sink_is ∙ still_dark;
-        }
-
     pub carried : Carried t m₀ octets b st x₁ st₂ out₂ i₂ k₂ o₂
     carried =
+        let at_slave = slave_took m t p a b ex st act _ l₁ x₁ does in
+        let at_master = master_took m t p a b ex st₂ Keep _ (after_writing master_read i₂ k₂ o₂) out₂ does₂ in
         record {
-          slave_state = slave_took.state_is;
-          inlet_is = slave_took.own_is;
-          master_state = master_took.state_is;
-          outlet_is = master_took.own_is;
-          out = out_again;
-          kept = kept_again;
+          slave_state = at_slave.state_is;
+          inlet_is = at_slave.own_is;
+          master_state = at_master.state_is;
+          outlet_is = at_master.own_is;
+          out = record {
+            from = master_read.numbers;
+            latest_is = ex.latest_is ∙ at_master.front_is ∙ ap (λ n. sent master_read.numbers n i₂ (octet k₂) o₂) kept.master_width;
+            numbers_are = ap (λ (l : Link). l.numbers) at_master.link_is;
+            in_step =
+                turned _ _
+                (subst (λ n. InStep n master_read.numbers) (sym (ap (λ (l : Link). l.numbers) at_slave.link_is ∙ written)) reply_handed.again);
+          };
+          kept = record {
+            plan_is = ex.back.1 ∙ kept.plan_is;
+            user_is = ap (λ (o : Outlet). o.user) at_master.own_is ∙ same_user ∙ kept.user_is;
+            master_width = ap (λ (l : Link). l.size.octets) at_master.link_is ∙ kept.master_width;
+            slave_width = ap (λ (l : Link). l.size.octets) at_slave.link_is ∙ same_size ∙ kept.slave_width;
+            address_is = ap (λ (x : Inlet). x.address) at_slave.own_is ∙ same_address ∙ kept.address_is;
+            outputs_are = ap (λ (l : Link). l.outputs) at_master.link_is ∙ kept.outputs_are;
+            command_is = ap (λ (l : Link). l.command) at_master.link_is ∙ kept.command_is;
+            count_is = kept.count_is;
+            up_is = ap t.up at_slave.sink_is ∙ still_up;
+            dark_is = ap t.shown at_slave.sink_is ∙ still_dark;
+          };
         }

@@ -1,5 +1,6 @@
 -- A frame that one end wrote, at the other end. Assumes nothing.
-use Rattle.std.proofs.Common.{◌≡◌, ℕ, ◌-◌, Bool, true, false, cond, List, ◌++◌, length, take, replicate, Some, None, sym, refl, ap, ◌∙◌, subst, arith}
+use Rattle.std.proofs.Common.{◌≡◌, ℕ, ◌-◌, true, List, ◌++◌, length, take, replicate, Some, sym, refl, ap, ◌∙◌, subst}
+use Rattle.std.proofs.lemmas.Option.{cond_some}
 use Rattle.length.proofs.Bounds.{Bounds}
 use Rattle.crc.specs.Crc.{shared}
 use Rattle.frame.specs.Commands.{octet, command}
@@ -40,10 +41,6 @@ known c.Parameter = refl
 known c.ProcessData = refl
 known c.FailSafeData = refl
 
-some : (b : Bool) (v w : ℕ) → cond b (Some v) None ≡ Some w → b ≡ true
-some true v w h = refl
-some false v w h = let z : ◌≡◌ {A = ℕ} 0 1 = cc in absurd (omega arith)
-
 -- the first d octets, with zeros behind them
 abbrev pub cut : ℕ → List ℕ → List ℕ
 cut d o = take d o ++ replicate (32 - d) 0
@@ -56,7 +53,7 @@ module _ (x y : Numbers) (s : InStep x y) (d i : ℕ) (k : Command) (o : List �
   straight =
       let f = follows x y s d i (octet k) o b.low b.even in
       record {
-        right = some (is_right y d (sent x d i (octet k) o)) _ _ f.right;
+        right = (cond_some (is_right y d (sent x d i (octet k) o)) _ _ f.right).0;
         kind_is = ap command (frame_command d (octet k) i register o b.low b.even) ∙ known k;
         id_is = frame_id d (octet k) i register o b.low b.even;
         piece_is = frame_octets_are d (octet k) i register o b.low b.high b.even room;

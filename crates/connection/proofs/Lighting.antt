@@ -19,11 +19,11 @@ use Rattle.connection.specs.Fits.{Fits}
 use Rattle.connection.specs.Exchanges.{Pair, Exchanged}
 use Rattle.connection.proofs.Handing.{Handed, handed}
 use Rattle.connection.proofs.Pieces as pieces
-use Rattle.connection.proofs.Taking.{took}
+use Rattle.connection.proofs.Carrying.{slave_took}
 use Rattle.connection.proofs.Answering as answering
 use Rattle.connection.proofs.Stages.{bounded, Ready}
 
-module _ {S T P N L U : Type 0} (m : sink.Ghosts S) (t : sink.Ghosts T) (law : Lawful t) (p : profile.Ghosts P N L U) (m₀ : Master S) (s₀ : Slave T P) (fits : Fits p m₀ s₀)
+module _ {S T P : Type 0} (m : sink.Ghosts S) (t : sink.Ghosts T) (law : Lawful t) (p : profile.Ghosts P) (m₀ : Master S) (s₀ : Slave T P) (fits : Fits p m₀ s₀)
     (octets : List ℕ) (a b : Pair S T P) (ex : Exchanged m t p a b) (h : Ready m₀ t octets a) where
   abbrev d : ℕ
   d = width m₀.endpoint
@@ -54,7 +54,7 @@ module _ {S T P N L U : Type 0} (m : sink.Ghosts S) (t : sink.Ghosts T) (law : L
   word_is : (at : ℕ) → at + 1 < h.at → word block at ≡ word (parameter_block w n user) at
   word_is = pieces.stored_word h.at block (parameter_block w n user) h.stored.block_is
 
-  user_octets_are : take p.numbers.octets (drop 6 block) ≡ take n user
+  user_octets_are : take p.USER_OCTETS (drop 6 block) ≡ take n user
   user_octets_are =
       ap (λ k. take k (drop 6 block)) fits.count_agrees
       ∙ pieces.stored_octets h.at block (parameter_block w n user) h.stored.block_is 6 n h.enough
@@ -75,8 +75,7 @@ module _ {S T P N L U : Type 0} (m : sink.Ghosts S) (t : sink.Ghosts T) (law : L
 
   pub lights : t.shown b.slave.endpoint.sink ≡ t.would a.slave.endpoint.sink given
   lights =
-      let r = took t a.slave.endpoint a.slave.inlet a.latest _ ex.slave_answer b.slave.endpoint b.slave.inlet ex.slave_buffer ex.slave_reply ex.slave_journal ex.slave_journal_after
-      ex.there.2 s.Data (Release given) _ _ a.slave.inlet takes in
+      let r = slave_took m t p a b ex s.Data (Release given) _ _ a.slave.inlet takes in
       ap t.shown r.sink_is
       ∙ law.effects.shown_released a.slave.endpoint.sink given
       ∙ cond-true (t.up a.slave.endpoint.sink) (t.would a.slave.endpoint.sink given) zeros h.kept.up_is

@@ -33,7 +33,7 @@ use Rattle.slave_end.specs.Matching as slave
 use Rattle.connection.specs.Fits.{Fits}
 use Rattle.connection.specs.Exchanges.{Pair, Exchanged}
 use Rattle.connection.proofs.Handing.{turned, Handed, cut, handed}
-use Rattle.connection.proofs.Taking.{front_of, Took, took}
+use Rattle.connection.proofs.Taking.{front_of, Took}
 use Rattle.connection.proofs.Answering as answering
 use Rattle.connection.proofs.Sending as sending
 use Rattle.connection.proofs.Carrying as carrying
@@ -64,7 +64,7 @@ module _ {S T P : Type 0} (t : sink.Ghosts T) (m₀ : Master S) where
 
   module _ (m : sink.Ghosts S) where
     -- a reset of the master
-    pub starts : {N L U : Type 0} (p : profile.Ghosts P N L U) (s₀ : Slave T P) → Fits p m₀ s₀ → t.up s₀.endpoint.sink ≡ true →
+    pub starts : (p : profile.Ghosts P) (s₀ : Slave T P) → Fits p m₀ s₀ → t.up s₀.endpoint.sink ≡ true →
         (e : Master S) (buffer reply : List ℕ) (j j' : Journal Line) (r : Answer) → calls.Resets m m₀ buffer j (Ok r) e reply j' →
         Started (record { master = e; slave = s₀; latest = take (frame_octets (width m₀.endpoint)) reply })
     starts p s₀ fits up e buffer reply j j' r (resetting, rest) =
@@ -78,15 +78,14 @@ module _ {S T P : Type 0} (t : sink.Ghosts T) (m₀ : Master S) where
           latest_is = front_of m₀.endpoint.link.size (reset_message 0) buffer reply resetting.3.reply_is;
         }
 
-module _ {S T P N L U : Type 0} (m : sink.Ghosts S) (t : sink.Ghosts T) (law : Lawful t) (p : profile.Ghosts P N L U) (m₀ : Master S)
+module _ {S T P : Type 0} (m : sink.Ghosts S) (t : sink.Ghosts T) (law : Lawful t) (p : profile.Ghosts P) (m₀ : Master S)
     (a b : Pair S T P) (ex : Exchanged m t p a b) (h : Started t m₀ a) where
   there : Handed fresh fresh (width a.slave.endpoint) 0 c.Reset (coded 0) (cut (width m₀.endpoint) (coded 0)) a.latest
   there = handed fresh fresh fresh_in_step (width m₀.endpoint) 0 c.Reset (coded 0) (bounded m₀) refl (width a.slave.endpoint) a.latest h.slave_width h.latest_is
 
   slave_took : Took t a.slave.endpoint s.Reset Clear (reset_message 0) (freshened a.slave.endpoint.link) a.slave.inlet b.slave.endpoint b.slave.inlet
       (take (frame_octets (width a.slave.endpoint)) ex.slave_reply)
-  slave_took = took t a.slave.endpoint a.slave.inlet a.latest _ ex.slave_answer b.slave.endpoint b.slave.inlet ex.slave_buffer ex.slave_reply ex.slave_journal ex.slave_journal_after
-      ex.there.2 s.Reset Clear (reset_message 0) (freshened a.slave.endpoint.link) a.slave.inlet
+  slave_took = carrying.slave_took m t p a b ex s.Reset Clear (reset_message 0) (freshened a.slave.endpoint.link) a.slave.inlet
       (answering.asked_is p a.slave a.latest ex.slave_session a.slave.endpoint.state (Some c.Reset) (padded (body (width a.slave.endpoint) a.latest)) refl there.kind_is refl
       ∙ answering.on_reset p a.slave.endpoint.link a.slave.inlet a.latest (padded (body (width a.slave.endpoint) a.latest)) ex.slave_session a.slave.endpoint.state there.right)
 
@@ -105,8 +104,7 @@ module _ {S T P N L U : Type 0} (m : sink.Ghosts S) (t : sink.Ghosts T) (law : L
 
   master_took : Took m a.master.endpoint s.Session Clear opens (after_writing (freshened a.master.endpoint.link) 0 c.Session (numbered n)) a.master.outlet b.master.endpoint b.master.outlet
       (take (frame_octets (width a.master.endpoint)) ex.master_reply)
-  master_took = took m a.master.endpoint a.master.outlet answer _ ex.master_answer b.master.endpoint b.master.outlet ex.master_buffer ex.master_reply ex.master_journal ex.master_journal_after
-      ex.back.2 s.Session Clear opens (after_writing (freshened a.master.endpoint.link) 0 c.Session (numbered n)) a.master.outlet
+  master_took = carrying.master_took m t p a b ex s.Session Clear opens (after_writing (freshened a.master.endpoint.link) 0 c.Session (numbered n)) a.master.outlet
       (sending.asked_is a.master answer n a.master.endpoint.state (Some c.Reset) (padded (body (width a.master.endpoint) answer)) refl back.kind_is refl)
 
   -- the first exchange, and the setting behind it
@@ -134,7 +132,7 @@ module _ {S T P N L U : Type 0} (m : sink.Ghosts S) (t : sink.Ghosts T) (law : L
         numbers_are = ap (λ (l : Link). l.numbers) setting.1 ∙ ap (λ (l : Link). l.numbers) link_is;
       }
 
-module _ {S T P N L U : Type 0} (m : sink.Ghosts S) (t : sink.Ghosts T) (law : Lawful t) (p : profile.Ghosts P N L U) (m₀ : Master S) (octets : List ℕ)
+module _ {S T P : Type 0} (m : sink.Ghosts S) (t : sink.Ghosts T) (law : Lawful t) (p : profile.Ghosts P) (m₀ : Master S) (octets : List ℕ)
     (a b : Pair S T P) (ex : Exchanged m t p a b) (h : Opening t m₀ octets a) where
   abbrev sink_now : T
   sink_now = a.slave.endpoint.sink

@@ -1,12 +1,12 @@
 -- The pieces of the master's blocks, and what stands in them. Assumes nothing.
 use Rattle.std.proofs.Common.{◌≡◌, ℕ, ◌+◌, ◌-◌, ◌<◌, ◌≤◌, List, ◌++◌, length, take, drop, replicate, sym, refl, ap, ◌∙◌, arith, length-append, length-drop, length-take, length-take-le, take-take, take_at, take-add}
-use lib.ListN.{length-replicate}
+use Rattle.std.proofs.lemmas.List.{length-replicate}
 use Rattle.std.proofs.lemmas.List.{drop-take}
 use Rattle.plan.specs.declared.sealed_plan.SealedPlan.{SealedPlan}
 use Rattle.outlet.specs.declared.blocks.Block.{Block}
 use Rattle.outlet.specs.declared.blocks.Block.TheVariants.{Connection, Parameter}
 use Rattle.outlet.specs.Blocks.{connection_block, parameter_block, piece, count_of}
-use Rattle.outlet.proofs.Lengths.{piece_within}
+use Rattle.outlet.proofs.Lengths.{length_piece, piece_within}
 use Rattle.inlet.specs.Storing.{placed, word}
 use Rattle.inlet.proofs.Pieces.{take_placed, word_take}
 
@@ -26,9 +26,6 @@ module _ (d at : ℕ) (high : d ≤ 32) (within : at ≤ 32) (block : List ℕ) 
   count : length (take d (drop at block)) ≡ d
   count = simp (length-take, length-drop) (omega arith)
 
-  pub piece_length : length (piece d at block) ≡ 32
-  piece_length = ap length (piece_within d at block within) ∙ filled_length d high (take d (drop at block)) count
-
   pub piece_front : take d (piece d at block) ≡ take d (drop at block)
   piece_front = ap (take d) (piece_within d at block within) ∙ filled_front d high (take d (drop at block)) count
 
@@ -46,7 +43,7 @@ module _ (d at : ℕ) (high : d ≤ 32) (within : at ≤ 32) (block : List ℕ) 
 -- the first number of a block stands in its first piece
 pub first_word : (d : ℕ) → 2 ≤ d → d ≤ 32 → (block : List ℕ) → length block ≡ 64 → word (piece d 0 block) 0 ≡ word block 0
 first_word d low high block all =
-    let room : length (piece d 0 block) ≡ 32 = piece_length d 0 high (omega arith) block all in
+    let room : length (piece d 0 block) ≡ 32 = length_piece d 0 block all high in
     sym (word_take d 0 (piece d 0 block) (omega arith))
     ∙ ap (λ l. word l 0) (piece_front d 0 high (omega arith) block all)
     ∙ word_take d 0 block (omega arith)

@@ -9,7 +9,7 @@ use Rattle.shared_end.specs.Endpoints.{width}
 use Rattle.master_end.specs.declared.master.Master.{Master}
 use Rattle.outlet.specs.declared.blocks.Block.TheVariants.{Connection, Parameter}
 use Rattle.slave_end.specs.declared.slave.Slave.{Slave}
-use Rattle.history.proofs.Taking.{in_full}
+use Rattle.history.proofs.Blocks.{in_full}
 use Rattle.connection.specs.Fits.{Fits}
 use Rattle.connection.specs.Exchanges.{Pair, Exchanged, Undisturbed, reset, set, next}
 use Rattle.connection.specs.Returning.{needed, Returns, ComesBack}
@@ -49,7 +49,7 @@ not_full d total j at low e some =
     let some_d : 0 < d = omega arith in
     (le-div_iff_mul-le {k = d} {x = suc j} {y = total + d - 1} some_d).1 (omega arith)
 
-module _ {S T P N L U : Type 0} (m : sink.Ghosts S) (t : sink.Ghosts T) (law : Lawful t) (p : profile.Ghosts P N L U) (m₀ : Master S) (s₀ : Slave T P)
+module _ {S T P : Type 0} (m : sink.Ghosts S) (t : sink.Ghosts T) (law : Lawful t) (p : profile.Ghosts P) (m₀ : Master S) (s₀ : Slave T P)
     (fits : Fits p m₀ s₀) (up : t.up s₀.endpoint.sink ≡ true) (octets : List ℕ) where
   abbrev d : ℕ
   d = width m₀.endpoint
@@ -106,6 +106,6 @@ module _ {S T P N L U : Type 0} (m : sink.Ghosts S) (t : sink.Ghosts T) (law : L
         lit = λ k a b u ex is. lights m t law p m₀ s₀ fits octets a b ex (last (stage u (omega (arith, is)) (omega (arith, is))) is);
       }
 
-pub comes_back : {S T P N L U : Type 0} (m : sink.Ghosts S) (t : sink.Ghosts T) → Lawful t → (p : profile.Ghosts P N L U) (m₀ : Master S) (s₀ : Slave T P) →
+pub comes_back : {S T P : Type 0} (m : sink.Ghosts S) (t : sink.Ghosts T) → Lawful t → (p : profile.Ghosts P) (m₀ : Master S) (s₀ : Slave T P) →
     ComesBack m t p m₀ s₀
 comes_back m t law p m₀ s₀ fits up octets = returns m t law p m₀ s₀ fits up octets

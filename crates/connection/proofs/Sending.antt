@@ -1,7 +1,8 @@
 -- What a master sends while a connection is set up. Assumes nothing.
-use Rattle.std.proofs.Common.{◌≡◌, ℕ, ◌+◌, ◌<◌, ◌≤◌, true, cond, eqb, ltb, List, [], ◌∷◌, Some, None, Option, refl, ap, ◌∙◌}
+use Rattle.std.proofs.Common.{◌≡◌, ℕ, ◌+◌, ◌<◌, ◌≤◌, true, cond, eqb, ltb, List, Some, None, Option, refl, ap, ◌∙◌}
 use Rattle.std.specs.Str.{bytes_eq}
-use Rattle.std.proofs.lemmas.Bool.{cond-true, cond-false, and_from, lt-ltb, le-ltb, eq-eqb}
+use Rattle.std.proofs.lemmas.Bool.{cond-true, cond-false, lt-ltb, le-ltb, eq-eqb}
+use Rattle.std.proofs.lemmas.Slice.Eq.{bytes_eq-Decides}
 use Rattle.faults.specs.declared.fault.Fault.TheVariants.{InvalidConnectionId, InvalidCrc, InvalidData}
 use Rattle.faults.specs.declared.state.State.{State}
 use Rattle.faults.specs.declared.state.State.TheVariants as s
@@ -13,19 +14,15 @@ use Rattle.chain.specs.Numbers.{is_right}
 use Rattle.plan.specs.declared.sealed_plan.SealedPlan.{SealedPlan}
 use Rattle.shared_end.specs.declared.link.Link.{Link}
 use Rattle.shared_end.specs.Endpoints.{width}
+use Rattle.shared_end.specs.Outcomes.{unless}
 use Rattle.master_end.specs.declared.master.Master.{Master}
 use Rattle.outlet.specs.declared.Outlet.{Outlet}
 use Rattle.outlet.specs.declared.blocks.Block.{Block}
 use Rattle.outlet.specs.declared.blocks.Block.TheVariants.{Connection, Parameter}
 use Rattle.outlet.specs.Blocks.{state_of, command_of, count_of}
-use Rattle.outlet.specs.Steps.{piece_at, piece_out, behind, next_out, unless, read, piece_taken}
+use Rattle.outlet.specs.Steps.{piece_at, piece_out, behind, next_out, read, piece_taken}
 use Rattle.outlet.specs.Outcomes.{outcome}
 use Rattle.master_end.specs.Matching.{asked}
-
--- octets are the same as themselves
-same_octets : (xs : List ℕ) → bytes_eq xs xs ≡ true
-same_octets [] = refl
-same_octets (x ∷ xs) = and_from (eqb x x) (bytes_eq xs xs) (eq-eqb x x refl) (same_octets xs)
 
 -- the outcome, by the state, the kind of the frame and its data octets
 pub asked_is : {S : Type 0} (e : Master S) (f : List ℕ) (n : ℕ) (st : State) (k : Option Command) (piece : List ℕ) →
@@ -52,8 +49,7 @@ module _ (l : Link) (o : Outlet) (p : SealedPlan) (f piece : List ℕ) (n : ℕ)
         piece_taken l o p f b piece ≡ next_out (read l o p f) o p b
     acknowledged b is same =
         let e₁ : eqb (id d f) p.draft.id ≡ true = eq-eqb _ _ is in
-        let e₂ : bytes_eq piece (piece_at l o p b o.at) ≡ true =
-        ap (λ q. bytes_eq q (piece_at l o p b o.at)) same ∙ same_octets (piece_at l o p b o.at) in
+        let e₂ : bytes_eq piece (piece_at l o p b o.at) ≡ true = (bytes_eq-Decides piece (piece_at l o p b o.at)).1 same in
         (λ i. unless (cond (e₁ i) (cond (e₂ i) (cond (right i) None (Some InvalidCrc)) (Some InvalidData)) (Some InvalidConnectionId))
         (next_out (read l o p f) o p b))
 

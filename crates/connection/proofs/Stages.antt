@@ -83,7 +83,7 @@ module _ {S : Type 0} (m₀ : Master S) where
           taken (state_of k) Keep (record { from = l.numbers; id = (kept.plan_is j).draft.id; command = command_of k; octets = o })
           (after_writing l (kept.plan_is j).draft.id (command_of k) o) (with_at a.master.outlet (e j)))
 
-module _ {S T P N L U : Type 0} (p : profile.Ghosts P N L U) (m₀ : Master S) (same_count : p.numbers.octets ≡ m₀.plan.draft.user_octets) where
+module _ {S T P : Type 0} (p : profile.Ghosts P) (m₀ : Master S) (same_count : p.USER_OCTETS ≡ m₀.plan.draft.user_octets) where
   -- a piece that is awaited is stored and echoed
   pub echoes : (b : Block) (at : ℕ) (e : Slave T P) (f : List ℕ) (n : ℕ) (x : Numbers) → Awaits m₀ b at e → at < count_of m₀.plan b →
       e.inlet.address ≡ m₀.plan.draft.address →

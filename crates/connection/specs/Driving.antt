@@ -1,5 +1,5 @@
 -- What the calls that make exchanges answer. Assumes nothing.
-use Rattle.std.specs.Prelude.{◌≡◌, ℕ, suc, ◌+◌, ◌-◌, true, cond, List, length, take, replicate, Some, None, Ok, Err, Option, Result, ◌==◌, ◌≢◌, slice_index}
+use Rattle.std.specs.Prelude.{◌≡◌, ℕ, suc, ◌+◌, ◌-◌, true, cond, List, length, take, replicate, Some, None, Ok, Err, Option, Result, ◌==◌, ◌≢◌}
 use Rattle.codes.specs.declared.refusal.Refusal.{Refusal}
 use Rattle.codes.specs.declared.refusal.Refusal.TheVariants.{WrongFrameLength, WrongDataCount}
 use Rattle.faults.specs.declared.line.Line.{Line}
@@ -13,6 +13,7 @@ use Rattle.shared_end.specs.Endpoints.{width}
 use Rattle.master_end.specs.declared.master.Master.{Master}
 use Rattle.master_end.specs.Calls as master
 use Rattle.slave_end.specs.declared.slave.Slave.{Slave}
+use Rattle.connection.specs.declared.exchanging.Sessions.{Sessions}
 use Rattle.connection.specs.Fits.{Fits}
 use Rattle.connection.specs.Exchanges.{Pair, Exchanged, Undisturbed}
 use Rattle.connection.specs.Returning.{needed, whole}
@@ -32,13 +33,13 @@ pub record Held (S T P : Type 0) : Type 0 where
 abbrev pub held : {S T P : Type 0} → Master S → Slave T P → List ℕ → (j k : Journal Line) → Held S T P
 held e f buffer j k = record { master = e; slave = f; buffer = buffer; master_journal = j; slave_journal = k }
 
-module _ {S T P N L U : Type 0} (m : sink.Ghosts S) (t : sink.Ghosts T) (p : profile.Ghosts P N L U) (e : Master S) (f : Slave T P) where
+module _ {S T P : Type 0} (m : sink.Ghosts S) (t : sink.Ghosts T) (p : profile.Ghosts P) (e : Master S) (f : Slave T P) where
   -- an exchange was made from the buffer at the front of which the master's latest frame stands, with these session numbers
   -- and journals; the data lengths stay
-  pub record Made (sessions buffer buffer' : List ℕ) (e' : Master S) (f' : Slave T P) (j j' k k' : Journal Line) : Type 0 where
+  pub record Made (sessions : Sessions) (buffer buffer' : List ℕ) (e' : Master S) (f' : Slave T P) (j j' k k' : Journal Line) : Type 0 where
     pub exchanged : Exchanged m t p (pair (width e.endpoint) e f buffer) (pair (width e.endpoint) e' f' buffer')
-    pub master_session_is : exchanged.master_session ≡ slice_index sessions 0
-    pub slave_session_is : exchanged.slave_session ≡ slice_index sessions 1
+    pub master_session_is : exchanged.master_session ≡ sessions.master
+    pub slave_session_is : exchanged.slave_session ≡ sessions.slave
     pub master_journal_is : exchanged.master_journal ≡ j
     pub master_journal_after_is : exchanged.master_journal_after ≡ j'
     pub slave_journal_is : exchanged.slave_journal ≡ k
@@ -57,21 +58,21 @@ module _ {S T P N L U : Type 0} (m : sink.Ghosts S) (t : sink.Ghosts T) (p : pro
     pub slave_journal_is : k' ≡ k
 
   -- an exchange is refused where the data lengths differ
-  abbrev pub Exchanging : (sessions buffer : List ℕ) → Result (List ℕ) Refusal → Master S → Slave T P → (j j' k k' : Journal Line) → Type 0
+  abbrev pub Exchanging : Sessions → (buffer : List ℕ) → Result (List ℕ) Refusal → Master S → Slave T P → (j j' k k' : Journal Line) → Type 0
   Exchanging sessions buffer (Ok buffer') e' f' j j' k k' = Made sessions buffer buffer' e' f' j j' k k'
   Exchanging sessions buffer (Err x) e' f' j j' k k' =
       (width f.endpoint ≢ width e.endpoint) × (x ≡ WrongFrameLength) × Untouched e' f' j j' k k'
 
-module _ {S T P N L U : Type 0} (m : sink.Ghosts S) (t : sink.Ghosts T) (p : profile.Ghosts P N L U) (sessions : List ℕ) where
+module _ {S T P : Type 0} (m : sink.Ghosts S) (t : sink.Ghosts T) (p : profile.Ghosts P) (sessions : Sessions) where
   -- so many exchanges were made with the same session numbers, each from what the one before left
   pub data InOrder : ℕ → Held S T P → Held S T P → Type 0 where
     none : {a : Held S T P} → InOrder 0 a a
     more : {n : ℕ} {a b c : Held S T P} → InOrder n a b →
         Made m t p b.master b.slave sessions b.buffer c.buffer c.master c.slave b.master_journal c.master_journal b.slave_journal c.slave_journal → InOrder (suc n) a c
 
-module _ {S T P N L U : Type 0} (m : sink.Ghosts S) (t : sink.Ghosts T) (p : profile.Ghosts P N L U) (e : Master S) (f : Slave T P) where
+module _ {S T P : Type 0} (m : sink.Ghosts S) (t : sink.Ghosts T) (p : profile.Ghosts P) (e : Master S) (f : Slave T P) where
   -- so many exchanges are made; that is refused only where the data lengths differ, and then nothing is done
-  abbrev pub Repeating : (sessions : List ℕ) → (count : ℕ) → (buffer : List ℕ) → Result (List ℕ) Refusal → Master S → Slave T P → (j j' k k' : Journal Line) → Type 0
+  abbrev pub Repeating : Sessions → (count : ℕ) → (buffer : List ℕ) → Result (List ℕ) Refusal → Master S → Slave T P → (j j' k k' : Journal Line) → Type 0
   Repeating sessions count buffer (Ok buffer') e' f' j j' k k' = InOrder m t p sessions count (held e f buffer j k) (held e' f' buffer' j' k')
   Repeating sessions count buffer (Err x) e' f' j j' k k' = (width f.endpoint ≢ width e.endpoint) × (x ≡ WrongFrameLength) × Untouched m t p e f e' f' j j' k k'
 
@@ -84,7 +85,7 @@ module _ {S T P N L U : Type 0} (m : sink.Ghosts S) (t : sink.Ghosts T) (p : pro
 
   -- the calls by which it was brought back: a reset of the master, one exchange, the setting, and the exchanges that are left,
   -- all with the session numbers that were handed in, and each from what the call before left, the journals too
-  pub record ByCalls (sessions octets : List ℕ) (e' : Master S) (f' : Slave T P) (j j' k k' : Journal Line) : Type 0 where
+  pub record ByCalls (sessions : Sessions) (octets : List ℕ) (e' : Master S) (f' : Slave T P) (j j' k k' : Journal Line) : Type 0 where
     pub after_reset : Master S
     pub first : List ℕ
     pub journal_after_reset : Journal Line
@@ -99,7 +100,7 @@ module _ {S T P N L U : Type 0} (m : sink.Ghosts S) (t : sink.Ghosts T) (p : pro
 
   -- the connection was brought back by undisturbed exchanges; if the ends fit and the slave's sink was up, the octets shown
   -- are what it would show for the octets set, judged before the last exchange
-  pub record Brought (sessions octets shown : List ℕ) (e' : Master S) (f' : Slave T P) (j j' k k' : Journal Line) : Type 0 where
+  pub record Brought (sessions : Sessions) (octets shown : List ℕ) (e' : Master S) (f' : Slave T P) (j j' k k' : Journal Line) : Type 0 where
     pub calls : ByCalls sessions octets e' f' j j' k k'
     pub count : ℕ
     pub before : Pair S T P
@@ -111,6 +112,6 @@ module _ {S T P N L U : Type 0} (m : sink.Ghosts S) (t : sink.Ghosts T) (p : pro
     pub lit : Fits p e f → t.up f.endpoint.sink ≡ true → shown ≡ t.would before.slave.endpoint.sink (whole e octets)
 
   -- it is brought back unless something speaks against it; then nothing is done
-  abbrev pub Bringing : (sessions octets : List ℕ) → Result (List ℕ) Refusal → Master S → Slave T P → (j j' k k' : Journal Line) → Type 0
+  abbrev pub Bringing : Sessions → (octets : List ℕ) → Result (List ℕ) Refusal → Master S → Slave T P → (j j' k k' : Journal Line) → Type 0
   Bringing sessions octets (Ok shown) e' f' j j' k k' = (against octets ≡ None) × Brought sessions octets shown e' f' j j' k k'
   Bringing sessions octets (Err x) e' f' j j' k k' = (against octets ≡ Some x) × Untouched m t p e f e' f' j j' k k'

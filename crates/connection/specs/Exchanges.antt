@@ -20,7 +20,7 @@ pub record Pair (S T P : Type 0) : Type 0 where
   pub slave : Slave T P
   pub latest : List ℕ
 
-module _ {S T P N L U : Type 0} (m : sink.Ghosts S) (t : sink.Ghosts T) (p : profile.Ghosts P N L U) where
+module _ {S T P : Type 0} (m : sink.Ghosts S) (t : sink.Ghosts T) (p : profile.Ghosts P) where
   -- the master's latest frame is handed to the slave, and the slave's reply back to the master; both are accepted
   pub record Exchanged (a b : Pair S T P) : Type 0 where
     pub slave_session : ℕ

@@ -18,7 +18,7 @@ needed e = exchanges (width e.endpoint) e.plan.draft.user_octets
 abbrev pub whole : {S : Type 0} → Master S → List ℕ → List ℕ
 whole e octets = octets ++ replicate (32 - width e.endpoint) 0
 
-module _ {S T P N L U : Type 0} (m : sink.Ghosts S) (t : sink.Ghosts T) (p : profile.Ghosts P N L U) (e : Master S) (f : Slave T P) where
+module _ {S T P : Type 0} (m : sink.Ghosts S) (t : sink.Ghosts T) (p : profile.Ghosts P) (e : Master S) (f : Slave T P) where
   -- after each exchange but the last the slave's sink shows zeros; after the last it shows what it would show, judged before
   -- it, for the octets set at the master
   pub record Returns (octets : List ℕ) : Type 0 where

@@ -4,5 +4,5 @@
 mod exchanging;
 mod recovery;
 
-pub use exchanging::exchange;
+pub use exchanging::{Sessions, exchange};
 pub use recovery::{bring_back, exchanges_needed};

@@ -3,9 +3,10 @@ ghost use Rattle.std.specs.Prelude.{◌≡◌};
 ghost use Rattle.connection.specs.Returning.{needed, ComesBack};
 ghost use Rattle.connection.specs.Driving.{Bringing};
 
-use crate::exchanging::{exchange, repeat};
+use crate::exchanging::{Sessions, exchange, repeat};
 use codes::refusal::Refusal;
 use faults::line::Line;
+use history::running::End;
 use journal::Journal;
 use master_end::Master;
 use profile::Profile;
@@ -30,7 +31,7 @@ pub fn bring_back<S: Sink, T: Sink, P: Profile>(
     master: &mut Master<S>,
     slave: &mut Slave<T, P>,
     octets: &[u8],
-    sessions: [u16; 2],
+    sessions: Sessions,
     master_journal: &mut Journal<'_, Line>,
     slave_journal: &mut Journal<'_, Line>,
 ) -> Result<[u8; 32], Refusal>

@@ -4,7 +4,8 @@ ghost use Rattle.crc.specs.Crc.{shared, part_crc, crc, OnlyNumber};
 
 use crate::register::Register;
 
-// What all parts of a frame share, and the register that was fed with it: once for a frame.
+// What all parts of a frame share, and the register that was fed with it: once for a frame. The command is an octet, since
+// one that came in may stand for no kind.
 #[derive(Clone, Copy)]
 pub struct Shared {
     command: u8,
@@ -13,6 +14,7 @@ pub struct Shared {
 }
 
 impl Shared {
+    #[tactic(auto, unfolding(crate::specs::Crc::shared))]
     pub fn new(last: u16, id: u16, number: u16, command: u8) -> Shared
         ensures command { result.command ≡ command }
         ensures id { result.id ≡ id }
@@ -42,6 +44,7 @@ impl Shared {
     }
 
     // The CRC of part i over its two data octets.
+    #[tactic(auto, unfolding(crate::specs::Crc::part_crc))]
     pub fn part(self, i: u16, first: u8, second: u8) -> u16
         ensures { result ≡ part_crc self.register.bits i first second }
     {
@@ -56,6 +59,7 @@ impl Shared {
 }
 
 // The CRC of part i of a frame, from all that it is fed with.
+#[tactic(auto, using(crate::proofs::OneToOne::only_number))]
 pub fn crc(i: u16, last: u16, id: u16, number: u16, command: u8, first: u8, second: u8) -> u16
     ensures value { result ≡ crc i last id number command first second }
     ensures one_to_one { OnlyNumber i last id number command first second }

@@ -23,10 +23,12 @@ impl Register {
     }
 
     // The register after one octet more.
+    #[tactic(auto, unfolding(crate::specs::Register::feed))]
     pub fn feed(self, octet: u8) -> Register
         ensures { result.bits ≡ feed self.bits octet }
     {
         let mut bits = self.bits ^ ((octet as u16) << 8);
+        // A loop and no fold: the step takes no item, so a fold's closure would only let the turn's number go.
         for _i in 0..8u8 {
             bits = shift(bits);
         }
@@ -43,6 +45,7 @@ impl Register {
 }
 
 // One place to the left, and the polynomial if a one fell out.
+#[tactic(auto, unfolding(crate::specs::Register::shift))]
 fn shift(bits: u16) -> u16
     ensures { result ≡ shift bits }
 {

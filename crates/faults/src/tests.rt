@@ -32,12 +32,8 @@ fn rows(rt: HostRuntime) -> Result<(), Fail> {
 
 #[test]
 fn device_codes(rt: HostRuntime) -> Result<(), Fail> {
-    if let Some(_) = DeviceCode::new(127) {
-        return Err(Fail::new("127 is a device code"));
-    }
-    let Some(code) = DeviceCode::new(128) else {
-        return Err(Fail::new("128 is refused"));
-    };
+    assert_eq!(rt; DeviceCode::new(127), None);
+    let code = DeviceCode::new(128).ok_or("128 is refused")?;
     assert_eq!(rt; Fault::Device(code).number(), 128);
     assert_eq!(rt; Fault::Device(code).layer().number(), 3);
     Ok(())

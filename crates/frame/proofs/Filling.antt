@@ -1,81 +1,71 @@
--- Octets that are stored behind a front, into zeros. Assumes nothing.
-use Rattle.std.proofs.Common.{◌≡◌, ℕ, zero, suc, ◌+◌, ◌-◌, ◌*◌, ◌/◌, ◌%◌, ◌<◌, ◌≤◌, List, [], ◌∷◌, ◌++◌, length, get_or, set, replicate, sym, refl, ap, ◌∙◌, append_assoc, add-one, arith, length-append}
-use lib.Seq.{set_at, append_snoc}
+-- Octets that are copied behind a front, into zeros. Assumes nothing.
+use Rattle.std.proofs.Common.{◌≡◌, ℕ, zero, suc, ◌+◌, ◌-◌, ◌*◌, ◌/◌, ◌%◌, ◌<◌, ◌≤◌, List, [], ◌∷◌, ◌++◌, length, get_or, take, drop, replicate, refl, append_assoc, mul-suc, arith, length-append, get_or-drop, take_all, take_at, drop_at, drop-drop}
+use Rattle.std.proofs.lemmas.List.{get_or_append_left, drop-replicate}
 use Rattle.length.specs.Lawful.{frame_octets}
 use Rattle.crc.specs.Register.{low_high}
 use Rattle.crc.specs.Crc.{part_crc}
-use Rattle.frame.specs.Layout.{parts, frame, filled}
-use Rattle.frame.specs.Reading.{first, second, pairs}
+use Rattle.frame.specs.Layout.{part, parts, frame, filled}
 
--- two octets
-pub pair : (p : List ℕ) (m k a b : ℕ) → length p ≡ k → set (set (p ++ replicate (m + 2) 0) k a) (k + 1) b ≡ p ++ (a ∷ b ∷ []) ++ replicate m 0
-pair p m k a b e =
-    let two : m + 2 ≡ suc (suc m) = omega arith in
-    let next : length (p ++ (a ∷ [])) ≡ k + 1 = length-append p (a ∷ []) ∙ ap (λ n. n + 1) e in
-    ap (λ n. set (set (p ++ replicate n 0) k a) (k + 1) b) two
-    ∙ ap (λ l. set l (k + 1) b) (set_at p 0 (0 ∷ replicate m 0) a k e ∙ sym (append_snoc p a (0 ∷ replicate m 0)))
-    ∙ set_at (p ++ (a ∷ [])) 0 (replicate m 0) b (k + 1) next
-    ∙ append_assoc p (a ∷ []) (b ∷ replicate m 0)
-    ∙ sym (append_assoc p (a ∷ b ∷ []) (replicate m 0))
+-- the octets at place a, of which there are k, are overwritten by octets
+abbrev pub copied : (a k : ℕ) (octets before : List ℕ) → List ℕ
+copied a k octets before = take a before ++ (octets ++ drop k (drop a before))
 
--- four octets
-pub four : (p : List ℕ) (m k a b c d : ℕ) → length p ≡ k → set (set (set (set (p ++ replicate (m + 4) 0) k a) (k + 1) b) (k + 2) c) (k + 3) d ≡ p ++ (a ∷ b ∷ c ∷ d ∷ []) ++ replicate m 0
-four p m k a b c d e =
-    let more : m + 4 ≡ m + 2 + 2 = omega arith in
-    let last : k + 3 ≡ k + 2 + 1 = omega arith in
-    let front : length (p ++ (a ∷ b ∷ [])) ≡ k + 2 = length-append p (a ∷ b ∷ []) ∙ ap (λ n. n + 2) e in
-    ap (λ n. set (set (set (set (p ++ replicate n 0) k a) (k + 1) b) (k + 2) c) (k + 3) d) more
-    ∙ ap (λ l. set (set l (k + 2) c) (k + 3) d) (pair p (m + 2) k a b e)
-    ∙ ap (λ n. set (set (p ++ (a ∷ b ∷ []) ++ replicate (m + 2) 0) (k + 2) c) n d) last
-    ∙ pair (p ++ (a ∷ b ∷ [])) m (k + 2) c d front
-    ∙ ap (λ l. l ++ replicate m 0) (append_assoc p (a ∷ b ∷ []) (c ∷ d ∷ []))
+-- they are copied behind a front p, where zeros stood
+copied_behind : (p octets : List ℕ) (a k m n : ℕ) → length p ≡ a → m ≡ n + k → copied a k octets (p ++ replicate m 0) ≡ (p ++ octets) ++ replicate n 0
+copied_behind p octets a k m n e s =
+    let left : m - k ≡ n = omega arith in
+    cc (take_at p (replicate m 0) a e, drop_at p (replicate m 0) a e, drop-replicate {X = ℕ} k m 0, append_assoc p octets (replicate n 0))
+
+-- a chunk that stands at place n of a list: its octets, and what follows chunk i of k octets each
+chunk_at : (xs chunk after : List ℕ) (n j : ℕ) → drop n xs ≡ chunk ++ after → j < length chunk → get_or chunk j 0 ≡ get_or xs (n + j) 0
+chunk_at xs chunk after n j e h = cc (get_or_append_left chunk after 0 j h, get_or-drop n xs j 0)
+
+pub after_chunk : (xs chunk after : List ℕ) (k i j : ℕ) → drop (k * i) xs ≡ chunk ++ after → length chunk ≡ k → j ≡ i + 1 → after ≡ drop (k * j) xs
+after_chunk xs chunk after k i j e l next =
+    let more : j ≡ suc i = omega arith in
+    let place : k * j ≡ k * i + k = cc (mul-suc k i) in
+    cc (drop_at chunk after k l, drop-drop k (k * i) xs)
+
+-- the first two octets
+two_of : (xs : List ℕ) → 2 ≤ length xs → take 2 xs ≡ get_or xs 0 0 ∷ get_or xs 1 0 ∷ []
+two_of [] h = absurd (omega arith)
+two_of (x ∷ []) h = absurd (omega arith)
+two_of (x ∷ y ∷ xs) h = refl
 
 pub length_parts : (register : ℕ) (octets : List ℕ) (i : ℕ) → length (parts register octets i) ≡ 4 * i
 length_parts register octets zero = refl
-length_parts register octets (suc i) =
-    let here : length (parts register octets i) ≡ 4 * i = length_parts register octets i in
-    let sum : length (parts register octets i) + 4 ≡ 4 * suc i = omega arith in
-    length-append (parts register octets i) _ ∙ sum
+length_parts register octets (suc i) = omega (arith, length-append (parts register octets i) (part register i (get_or octets (2 * i) 0) (get_or octets (2 * i + 1) 0)), length_parts register octets i)
 
 -- the two octets of a number as they are split in code
-pub split : (n : ℕ) (bytes : List ℕ) → n < 65536 → bytes ≡ n % 256 ∷ n / 256 % 256 ∷ [] → bytes ≡ low_high n
-split n bytes h e =
+pub split : (n : ℕ) (octets : List ℕ) → n < 65536 → octets ≡ n % 256 ∷ n / 256 % 256 ∷ [] → octets ≡ low_high n
+split n octets h e =
     let high : n / 256 % 256 ≡ n / 256 = omega arith in
-    e ∙ ap (λ x. n % 256 ∷ x ∷ []) high
+    cc
 
 -- one part more stands in the frame
-pub parts_more : (command register i n : ℕ) (given octets bytes : List ℕ) → i < 16 → octets ≡ (command ∷ parts register given i) ++ replicate (66 - 4 * i) 0 → n ≡ part_crc register i (get_or given (2 * i) 0) (get_or given (2 * i + 1) 0) → bytes ≡ low_high n → set (set (set (set octets (4 * i + 1) (get_or given (2 * i) 0)) (4 * i + 1 + 1) (get_or given (2 * i + 1) 0)) (4 * i + 1 + 2) (get_or bytes 0 0)) (4 * i + 1 + 3) (get_or bytes 1 0) ≡ (command ∷ parts register given (i + 1)) ++ replicate (66 - 4 * (i + 1)) 0
-parts_more command register i n given octets bytes h inv crc both =
-    let a : ℕ = get_or given (2 * i) 0 in
-    let b : ℕ = get_or given (2 * i + 1) 0 in
-    let front : length (command ∷ parts register given i) ≡ 4 * i + 1 = ap suc (length_parts register given i) ∙ sym (add-one (4 * i)) in
-    let room : 66 - 4 * i ≡ 66 - 4 * (i + 1) + 4 = omega arith in
-    ap (λ l. set (set (set (set l (4 * i + 1) a) (4 * i + 1 + 1) b) (4 * i + 1 + 2) (get_or bytes 0 0)) (4 * i + 1 + 3) (get_or bytes 1 0)) (inv ∙ ap (λ k. (command ∷ parts register given i) ++ replicate k 0) room)
-    ∙ four (command ∷ parts register given i) (66 - 4 * (i + 1)) (4 * i + 1) a b (get_or bytes 0 0) (get_or bytes 1 0) front
-    ∙ ap (λ l. (command ∷ (parts register given i ++ (a ∷ b ∷ get_or l 0 0 ∷ get_or l 1 0 ∷ []))) ++ replicate (66 - 4 * (i + 1)) 0) (both ∙ ap low_high crc)
-    ∙ ap (λ k. (command ∷ parts register given k) ++ replicate (66 - 4 * (i + 1)) 0) (sym (add-one i))
+pub parts_more : (command register : ℕ) (given octets chunk after stored crc : List ℕ) (k i j : ℕ) → k ≡ i → j ≡ i + 1 → i < 16 → octets ≡ (command ∷ parts register given i) ++ replicate (66 - 4 * i) 0 → drop (2 * i) given ≡ chunk ++ after → length chunk ≡ 2 → stored ≡ chunk → crc ≡ low_high (part_crc register k (get_or chunk 0 0) (get_or chunk 1 0)) → copied (4 * k + 1 + 2) (4 * k + 1 + 4 - (4 * k + 1 + 2)) crc (copied (4 * k + 1) (4 * k + 1 + 2 - (4 * k + 1)) stored octets) ≡ (command ∷ parts register given j) ++ replicate (66 - 4 * j) 0
+parts_more command register given octets chunk after stored crc k i j this next h inv e l copy c =
+    let front : List ℕ = command ∷ parts register given i in
+    let long : length front ≡ 4 * i + 1 = omega (arith, length_parts register given i) in
+    let longer : length (front ++ chunk) ≡ 4 * i + 1 + 2 = omega (arith, length-append front chunk) in
+    let room : 4 * k + 1 + 2 - (4 * k + 1) ≡ 2 = omega arith in
+    let other_room : 4 * k + 1 + 4 - (4 * k + 1 + 2) ≡ 2 = omega arith in
+    let place : 2 * i + 0 ≡ 2 * i = omega arith in
+    let more : j ≡ suc i = omega arith in
+    let both = two_of chunk (omega arith) in
+    let whole = take_all 2 chunk (omega arith) in
+    let a = chunk_at given chunk after (2 * i) 0 e (omega arith) in
+    let b = chunk_at given chunk after (2 * i) 1 e (omega arith) in
+    let stands : (front ++ chunk) ++ crc ≡ command ∷ parts register given (suc i) = cc (append_assoc front chunk crc) in
+    let one = copied_behind front chunk (4 * i + 1) 2 (66 - 4 * i) (64 - 4 * i) long (omega arith) in
+    let two = copied_behind (front ++ chunk) crc (4 * i + 1 + 2) 2 (64 - 4 * i) (66 - 4 * j) longer (omega arith) in
+    cc
 
 -- the connection ID closes the frame
-pub id_last : (d command register n : ℕ) (given octets bytes : List ℕ) → d ≤ 32 → d % 2 ≡ 0 → octets ≡ (command ∷ parts register given (d / 2)) ++ replicate (66 - 4 * (d / 2)) 0 → bytes ≡ low_high n → set (set octets (2 * d + 1) (get_or bytes 0 0)) (2 * d + 1 + 1) (get_or bytes 1 0) ≡ filled d command n register given
+pub id_last : (d k command register n i : ℕ) (given octets stored : List ℕ) → k ≡ d → d ≤ 32 → d % 2 ≡ 0 → i ≡ d / 2 → octets ≡ (command ∷ parts register given i) ++ replicate (66 - 4 * i) 0 → stored ≡ low_high n → copied (2 * k + 1) (2 * k + 1 + 2 - (2 * k + 1)) stored octets ≡ filled d command n register given
 unfolding frame
-id_last d command register n given octets bytes h even inv both =
-    let front : length (command ∷ parts register given (d / 2)) ≡ 2 * d + 1 = ap suc (length_parts register given (d / 2)) ∙ omega arith in
-    let room : 66 - 4 * (d / 2) ≡ 67 - frame_octets d + 2 = omega arith in
-    ap (λ l. set (set l (2 * d + 1) (get_or bytes 0 0)) (2 * d + 1 + 1) (get_or bytes 1 0)) (inv ∙ ap (λ k. (command ∷ parts register given (d / 2)) ++ replicate k 0) room)
-    ∙ pair (command ∷ parts register given (d / 2)) (67 - frame_octets d) (2 * d + 1) (get_or bytes 0 0) (get_or bytes 1 0) front
-    ∙ ap (λ l. (command ∷ (parts register given (d / 2) ++ (get_or l 0 0 ∷ get_or l 1 0 ∷ []))) ++ replicate (67 - frame_octets d) 0) both
-
-length_pairs : (body : List ℕ) (i : ℕ) → length (pairs body i) ≡ 2 * i
-length_pairs body zero = refl
-length_pairs body (suc i) =
-    let here : length (pairs body i) ≡ 2 * i = length_pairs body i in
-    let sum : length (pairs body i) + 2 ≡ 2 * suc i = omega arith in
-    length-append (pairs body i) _ ∙ sum
-
--- one pair of data octets more is read
-pub pairs_more : (body octets : List ℕ) (i : ℕ) → i < 16 → octets ≡ pairs body i ++ replicate (32 - 2 * i) 0 → set (set octets (2 * i) (first body i)) (2 * i + 1) (second body i) ≡ pairs body (i + 1) ++ replicate (32 - 2 * (i + 1)) 0
-pairs_more body octets i h inv =
-    let room : 32 - 2 * i ≡ 32 - 2 * (i + 1) + 2 = omega arith in
-    ap (λ l. set (set l (2 * i) (first body i)) (2 * i + 1) (second body i)) (inv ∙ ap (λ k. pairs body i ++ replicate k 0) room)
-    ∙ pair (pairs body i) (32 - 2 * (i + 1)) (2 * i) (first body i) (second body i) (length_pairs body i)
-    ∙ ap (λ k. pairs body k ++ replicate (32 - 2 * (i + 1)) 0) (sym (add-one i))
+id_last d k command register n i given octets stored same h even e inv copy =
+    let front : List ℕ = command ∷ parts register given i in
+    let long : length front ≡ 2 * d + 1 = omega (arith, length_parts register given i) in
+    let room : 2 * k + 1 + 2 - (2 * k + 1) ≡ 2 = omega arith in
+    cc (copied_behind front (low_high n) (2 * d + 1) 2 (66 - 4 * i) (67 - frame_octets d) long (omega arith))

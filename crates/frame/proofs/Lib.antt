@@ -1,2 +1,4 @@
 pub mod Filling
+pub mod Checking
 pub mod RoundTrip
+pub mod Padding

@@ -1,7 +1,8 @@
 -- The commands of the six kinds of frame. Assumes nothing.
-use Rattle.std.specs.Prelude.{ℕ, cond, Some, None, Option, ◌==◌}
+use Rattle.std.specs.Prelude.{◌≡◌, ℕ, cond, List, Some, None, Option, Result, MatchResult, ◌==◌, codes}
 use Rattle.frame.specs.declared.command.Command.{Command}
 use Rattle.frame.specs.declared.command.Command.TheVariants.{Reset, Session, Connection, Parameter, ProcessData, FailSafeData}
+use Rattle.frame.specs.declared.command.UnknownCommand.{UnknownCommand}
 
 abbrev pub octet : Command → ℕ
 octet Reset = 0x2A
@@ -20,3 +21,16 @@ command n =
     (cond (n == octet Parameter) (Some Parameter)
     (cond (n == octet ProcessData) (Some ProcessData)
     (cond (n == octet FailSafeData) (Some FailSafeData) None)))))
+
+-- the result is the command that the octet stands for, or an error with an octet that stands for none
+abbrev pub Decodes : ℕ → Result Command UnknownCommand → Type 0
+Decodes n r = MatchResult r (λ c. command n ≡ Some c) (λ e. (command n ≡ None) × (e.0 ≡ n))
+
+-- how a command is printed
+abbrev pub name : Command → List ℕ
+name Reset = codes "Reset"
+name Session = codes "Session"
+name Connection = codes "Connection"
+name Parameter = codes "Parameter"
+name ProcessData = codes "ProcessData"
+name FailSafeData = codes "FailSafeData"

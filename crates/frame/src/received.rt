@@ -1,13 +1,16 @@
 // A received frame: its kind, and what is read from its octets.
-ghost use Rattle.std.specs.Prelude.{◌≡◌, ◌+◌, ◌*◌, ◌<◌, true, length, slice_index};
+ghost use Rattle.std.specs.Prelude.{◌≡◌, ◌+◌, ◌*◌, ◌<◌, true, Some, length, slice_index};
 ghost use Rattle.frame.specs.Reading.{command_octet, first_octet, second_octet, body, id, whole, right, part_right, padded};
-ghost use Rattle.frame.specs.Received.{Read};
+ghost use Rattle.frame.specs.Received.{Read, kind, held, kind_name};
 
+use crate::command::{Command, UnknownCommand};
 use codes::refusal::Refusal;
 use crc::part::Shared;
 use length::DataLength;
+use std::{array, fmt};
 
 // A frame by its kind. Each known kind borrows the part between the command and the connection ID.
+// A rule of the project: kinds are cases that borrow the body. So there is no `Option` of a command with a body beside it.
 #[derive(Clone, Copy)]
 pub enum Frame<'a> {
     Reset(&'a [u8]),
@@ -17,6 +20,49 @@ pub enum Frame<'a> {
     ProcessData(&'a [u8]),
     FailSafeData(&'a [u8]),
     Unknown,
+}
+
+impl<'a> Frame<'a> {
+    // The command, of a frame of a known kind.
+    pub fn command(self) -> Option<Command>
+        ensures { result ≡ kind self.entry }
+    {
+        match self {
+            Frame::Reset(_) => Some(Command::Reset),
+            Frame::Session(_) => Some(Command::Session),
+            Frame::Connection(_) => Some(Command::Connection),
+            Frame::Parameter(_) => Some(Command::Parameter),
+            Frame::ProcessData(_) => Some(Command::ProcessData),
+            Frame::FailSafeData(_) => Some(Command::FailSafeData),
+            Frame::Unknown => None,
+        }
+    }
+
+    // What stands between the command and the connection ID; nothing where the kind is unknown.
+    pub fn body(self) -> &'a [u8]
+        ensures { result.now ≡ held self.entry }
+    {
+        match self {
+            Frame::Reset(body)
+            | Frame::Session(body)
+            | Frame::Connection(body)
+            | Frame::Parameter(body)
+            | Frame::ProcessData(body)
+            | Frame::FailSafeData(body) => body,
+            Frame::Unknown => &[],
+        }
+    }
+}
+
+impl fmt::Display for Frame<'_> {
+    ghost output = { λ f. Some (kind_name f) };
+
+    fn fmt<W: fmt::Write>(&self, f: &mut fmt::Formatter<W>) -> fmt::Result {
+        match self.command() {
+            Some(command) => command.fmt(f),
+            None => f.write_str("unknown"),
+        }
+    }
 }
 
 // Octets that came in, and the data length of the connection that they came for.
@@ -35,14 +81,14 @@ impl<'a> Received<'a> {
             return Err(Refusal::WrongFrameLength);
         }
         let body = self.body();
-        Ok(match self.command() {
-            0x2A => Frame::Reset(body),
-            0x4E => Frame::Session(body),
-            0x64 => Frame::Connection(body),
-            0x52 => Frame::Parameter(body),
-            0x36 => Frame::ProcessData(body),
-            0x08 => Frame::FailSafeData(body),
-            _ => Frame::Unknown,
+        Ok(match Command::try_from(self.command()) {
+            Ok(Command::Reset) => Frame::Reset(body),
+            Ok(Command::Session) => Frame::Session(body),
+            Ok(Command::Connection) => Frame::Connection(body),
+            Ok(Command::Parameter) => Frame::Parameter(body),
+            Ok(Command::ProcessData) => Frame::ProcessData(body),
+            Ok(Command::FailSafeData) => Frame::FailSafeData(body),
+            Err(UnknownCommand(_)) => Frame::Unknown,
         })
     }
 
@@ -62,6 +108,7 @@ impl<'a> Received<'a> {
     }
 
     // Whether the frame is whole, and each of its CRCs is the one that follows from what its parts share.
+    #[tactic(auto, unfolding(crate::specs::Reading::right))]
     pub fn is_right(self, shared: Shared) -> bool
         ensures { result ≡ right self.entry.size.octets self.entry.octets.now shared.register.bits }
     {
@@ -69,11 +116,7 @@ impl<'a> Received<'a> {
             return false;
         }
         let body = self.body();
-        let mut right = true;
-        for i in 0..self.size.parts() {
-            right &= part_is_right(body, shared, i);
-        }
-        right
+        (0..self.size.parts()).all(|i| part_is_right(body, shared, i))
     }
 
     // The first data octet; 0 where there is none.
@@ -106,11 +149,7 @@ impl<'a> Received<'a> {
     fn octet(self, i: usize) -> u8
         ensures { result ≡ slice_index self.entry.octets.now i }
     {
-        if i < self.octets.len() {
-            self.octets[i]
-        } else {
-            0
-        }
+        self.octets.get(i).copied().unwrap_or(0)
     }
 }
 
@@ -120,18 +159,15 @@ fn part_is_right(body: &[u8], shared: Shared, i: u16) -> bool
     ensures { result ≡ part_right shared.register.bits body.now i }
 {
     let at = 4 * i as usize;
-    let stands = u16::from_le_bytes([body[at + 2], body[at + 3]]);
-    stands == shared.part(i, body[at], body[at + 1])
+    let part = &body[at..at + 4];
+    // By index: a slice pattern would need an arm for lengths that never come.
+    u16::from_le_bytes([part[2], part[3]]) == shared.part(i, part[0], part[1])
 }
 
 // The data octets that a frame's body carries, with zeros behind them.
 pub fn data_of(body: &[u8]) -> [u8; 32]
     ensures { result ≡ padded body.now }
 {
-    let mut octets = [0u8; 32];
-    for i in 0..(body.len() / 4).min(16) {
-        octets[2 * i] = body[4 * i];
-        octets[2 * i + 1] = body[4 * i + 1];
-    }
-    octets
+    let (parts, _) = body.as_chunks::<4>();
+    array::from_fn(|i| parts.get(i / 2).map_or(0, |part| part[i % 2]))
 }

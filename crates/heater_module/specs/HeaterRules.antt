@@ -1,12 +1,8 @@
--- The heater profile's numbers and its verdict. Assumes nothing.
+-- The heater profile's verdict. Assumes nothing.
 use Rattle.std.specs.Prelude.{cond, ◌||◌, List, ℕ, ◌+◌, ◌*◌, ◌==◌, nat_lt, length, slice_index}
-use Rattle.profile.specs.Numbers.{Numbers}
 use Rattle.profile.specs.Verdicts.{device}
 use Rattle.profile.specs.declared.verdict.Verdict.{Verdict}
 use Rattle.profile.specs.declared.verdict.Verdict.TheVariants.{Accepted, Invalid}
-
-abbrev pub heater_numbers : Numbers
-heater_numbers = record { octets = 3; lowest = 20; highest = 5000 }
 
 -- the target is from 30 to 350 degrees, and then the step from 1 to 4
 abbrev pub settings : ℕ → ℕ → Verdict

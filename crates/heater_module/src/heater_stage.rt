@@ -1,5 +1,7 @@
 // The output stage: two heater contactors that close only under an interlock. In octet 0 bit 0 is the upper heater, bit 1
 // the lower one and bit 7 the interlock; a release without the interlock opens both.
+// It implements `Sink` itself, as a module programmer whose stage has another form does: over `Outputs` of `sinks` it would be shorter,
+// and no longer show the interface.
 ghost use Rattle.std.specs.Prelude.{◌≡◌, slice_index, nat_le};
 ghost use Rattle.heater_module.specs.Heaters.{interlocked, octets_of, new_stage, stage_released, stage_cleared, stage_told};
 ghost use Rattle.sink.proofs.Lits.{first_within};

@@ -1,34 +1,23 @@
 -- What a sink shows, and where it came from, over the calls that are the same at both ends. Assumes nothing.
-use Rattle.std.proofs.Common.{◌≡◌, ℕ, zero, suc, ◌+◌, ◌-◌, ◌/◌, ◌%◌, ◌^◌, ◌<◌, ◌≤◌, Bool, true, false, cond, not, ◌&&◌, leb, List, ◌∷◌, get_or, replicate, Some, None, Ok, sym, refl, ap, ◌∙◌, subst, arith, leb-false}
-use native.Mathlib.Nat.{zero-div}
-use Rattle.faults.specs.declared.fault.Fault.TheVariants.{SinkDown, WatchdogExpired}
+use Rattle.std.proofs.Common.{◌≡◌, ℕ, ◌+◌, ◌-◌, ◌<◌, ◌≤◌, Bool, true, false, cond, not, ◌&&◌, leb, List, ◌∷◌, Some, None, Ok, sym, refl, ap, ◌∙◌, subst, arith, leb-false}
+use Rattle.faults.specs.declared.fault.Fault.TheVariants.{SinkDown}
 use Rattle.faults.specs.declared.state.State.{State}
 use Rattle.faults.specs.declared.state.State.TheVariants as s
 use Rattle.frame.specs.declared.command.Command.TheVariants.{ProcessData}
 use Rattle.sink.specs.declared.Sink.{Ghosts}
 use Rattle.sink.specs.Lawful.{Lawful}
 use Rattle.sink.specs.Octets.{zeros, Lit}
+use Rattle.sink.proofs.Lits.{none_lit, shown_within}
 use Rattle.shared_end.specs.declared.answer.Answer.{Answer}
 use Rattle.shared_end.specs.declared.endpoint.Endpoint.{Endpoint}
 use Rattle.shared_end.specs.declared.link.Link.{Link}
 use Rattle.shared_end.specs.declared.step.Act.TheVariants.{Release}
 use Rattle.shared_end.specs.declared.data_command.DataCommand.{DataCommand}
 use Rattle.shared_end.specs.Link.{expires, counted, with_outputs}
-use Rattle.shared_end.specs.Endpoints.{width, with_link, with_sink, missed, restarted, ticked}
-use Rattle.shared_end.specs.Calls.{line_of, tick_fault}
+use Rattle.shared_end.specs.Endpoints.{width, with_link, with_sink, missed, restarted}
+use Rattle.shared_end.specs.Calls.{line_of}
 use Rattle.history.specs.Events.{Event, Took, Idle, NotDown, line, ticks, tick, feedback}
 use Rattle.history.specs.Live.{data_octets, Carried, here, later}
-
--- no bit of the zeros is set
-zero_at : (n i : ℕ) → ◌≡◌ {A = ℕ} (get_or (replicate n 0) i 0) 0
-zero_at zero i = refl
-zero_at (suc n) zero = refl
-zero_at (suc n) (suc i) = zero_at n i
-
-pub unlit : (i k : ℕ) → Lit zeros i k → ⊥
-unlit i k h =
-    let none : (get_or zeros i 0 / 2 ^ k) % 2 ≡ 0 = ap (λ n. (n / 2 ^ k) % 2) (zero_at 32 i) ∙ ap (λ n. n % 2) (zero-div (2 ^ k)) in
-    omega (arith, none, h)
 
 module _ {S : Type 0} (m : Ghosts S) where
   abbrev pub Dark : Endpoint S → Type 0
@@ -51,28 +40,30 @@ module _ {S : Type 0} (m : Ghosts S) where
   abbrev pub Shines : List Event → Endpoint S → Type 0
   Shines es c = ShinesIn c.state es c
 
+  -- what is dark stays dark, and what glows glows on
+  in_state : (st : State) (es es' : List Event) (c c' : Endpoint S) → (Dark c → Dark c') → (st ≡ s.Data → Glows es c → Glows es' c') →
+      ShinesIn st es c → ShinesIn st es' c'
+  in_state s.Reset es es' c c' d f g = d g
+  in_state s.Session es es' c c' d f g = d g
+  in_state s.Connection es es' c c' d f g = d g
+  in_state s.Parameter es es' c c' d f g = d g
+  in_state s.Data es es' c c' d f g = f refl g
+
   -- a call that leaves state, link and sink, and does not end the time
   pub still : (st : State) (event : Event) (es : List Event) (c : Endpoint S) → Idle event → NotDown event → ticks event ≡ 0 →
       ShinesIn st es c → ShinesIn st (event ∷ es) c
-  still s.Reset event es c i n z g = g
-  still s.Session event es c i n z g = g
-  still s.Connection event es c i n z g = g
-  still s.Parameter event es c i n z g = g
-  still s.Data event es c i n z g = record {
+  still st event es c i n z = in_state st es (event ∷ es) c c (λ g. g) (λ on g. record {
     since = ticks event + g.since;
     time = omega (arith, g.time, z);
     some = g.some;
     carried = λ a k lit. later i n (g.carried a k lit);
-  }
+  })
 
   -- other octets are set
   pub outputs_set : (st : State) (es : List Event) (c : Endpoint S) (octets : List ℕ) (cm : DataCommand) → ShinesIn st es c →
       ShinesIn st es (with_link c (with_outputs c.link octets cm))
-  outputs_set s.Reset es c octets cm g = g
-  outputs_set s.Session es c octets cm g = g
-  outputs_set s.Connection es c octets cm g = g
-  outputs_set s.Parameter es c octets cm g = g
-  outputs_set s.Data es c octets cm g = record { since = g.since; time = g.time; some = g.some; carried = g.carried }
+  outputs_set st es c octets cm =
+      in_state st es es c (with_link c (with_outputs c.link octets cm)) (λ g. g) (λ on g. record { since = g.since; time = g.time; some = g.some; carried = g.carried })
 
   -- a bit of zeros is not shown
   pub dark_glows : (es : List Event) (c : Endpoint S) → Dark c → (n : ℕ) → c.link.left + n ≡ c.link.watchdog → 1 ≤ c.link.left → Glows es c
@@ -80,7 +71,7 @@ module _ {S : Type 0} (m : Ghosts S) where
     since = n;
     time = time;
     some = some;
-    carried = λ i k lit. absurd (unlit i k (subst (λ o. Lit o i k) dark lit));
+    carried = λ i k lit. absurd (none_lit i k (subst (λ o. Lit o i k) dark lit));
   }
 
   module _ (law : Lawful m) where
@@ -88,14 +79,10 @@ module _ {S : Type 0} (m : Ghosts S) where
     restarted_dark c = law.effects.shown_cleared c.sink
 
     -- a tick that does not end the time
-    counted_on : (st : State) (runs : Bool) (a : Answer) (es : List Event) (c : Endpoint S) → (st ≡ s.Data → runs ≡ true) → a.line ≡ None →
+    pub counted_on : (st : State) (runs : Bool) (a : Answer) (es : List Event) (c : Endpoint S) → (st ≡ s.Data → runs ≡ true) → a.line ≡ None →
         expires runs c.link ≡ false → ShinesIn st es c → ShinesIn st (tick (Ok a) ∷ es) (with_link c (counted runs c.link))
-    counted_on s.Reset runs a es c r l x g = g
-    counted_on s.Session runs a es c r l x g = g
-    counted_on s.Connection runs a es c r l x g = g
-    counted_on s.Parameter runs a es c r l x g = g
-    counted_on s.Data runs a es c r l x g =
-        let on : runs ≡ true = r refl in
+    counted_on st runs a es c r l x = in_state st es (tick (Ok a) ∷ es) c (with_link c (counted runs c.link)) (λ g. g) (λ flows g.
+        let on : runs ≡ true = r flows in
         let more : 1 < c.link.left = leb-false c.link.left 1 (ap (λ b. b && leb c.link.left 1) (sym on) ∙ x) in
         let less : (counted runs c.link).left ≡ c.link.left - 1 =
         ap (λ b. cond (b && not (b && leb c.link.left 1)) (c.link.left - 1) c.link.left) on
@@ -105,41 +92,26 @@ module _ {S : Type 0} (m : Ghosts S) where
           time = omega (arith, less, more, g.time);
           some = omega (arith, less, more);
           carried = λ i k lit. later l tt (g.carried i k lit);
-        }
-
-    pub shines_tick : (runs : Bool) (a : Answer) (es : List Event) (c c' : Endpoint S) → (c.state ≡ s.Data → runs ≡ true) →
-        c' ≡ ticked m runs c → a.line ≡ line_of c.state 0 (tick_fault m runs c) → Shines es c → Shines (tick (Ok a) ∷ es) c'
-    shines_tick runs a es c c' r same l g = by (expires runs c.link) refl where
-      by : (b : Bool) → expires runs c.link ≡ b → Shines (tick (Ok a) ∷ es) c'
-      by true x =
-          subst (Shines (tick (Ok a) ∷ es)) (sym (same ∙ ap (λ b. cond b (restarted m c) (with_link c (counted runs c.link))) x))
-          (restarted_dark c)
-      by false x =
-          subst (Shines (tick (Ok a) ∷ es)) (sym (same ∙ ap (λ b. cond b (restarted m c) (with_link c (counted runs c.link))) x))
-          (counted_on c.state runs a es c r (l ∙ ap (λ b. line_of c.state 0 (cond b (Some WatchdogExpired) None)) x) x g)
+        })
 
     -- a feedback
     told_dark : (u : Bool) (c : Endpoint S) → Dark c → Dark (with_sink c (m.told c.sink u))
     told_dark true c g = law.effects.shown_told c.sink true ∙ g
     told_dark false c g = law.effects.shown_told c.sink false
 
-    fed_back : (st : State) (u : Bool) (es : List Event) (c : Endpoint S) → ShinesIn st es c →
-        ShinesIn st (feedback u ∷ es) (with_sink c (m.told c.sink u))
-    fed_back s.Reset u es c g = told_dark u c g
-    fed_back s.Session u es c g = told_dark u c g
-    fed_back s.Connection u es c g = told_dark u c g
-    fed_back s.Parameter u es c g = told_dark u c g
-    fed_back s.Data true es c g = record {
+    told_glows : (u : Bool) (es : List Event) (c : Endpoint S) → Glows es c → Glows (feedback u ∷ es) (with_sink c (m.told c.sink u))
+    told_glows true es c g = record {
       since = 0 + g.since;
       time = omega (arith, g.time);
       some = g.some;
       carried = λ i k lit. later tt refl (g.carried i k (subst (λ o. Lit o i k) (law.effects.shown_told c.sink true) lit));
     }
-    fed_back s.Data false es c g =
+    told_glows false es c g =
         dark_glows (feedback false ∷ es) (with_sink c (m.told c.sink false)) (law.effects.shown_told c.sink false) g.since g.time g.some
 
-    pub shines_feedback : (u : Bool) (es : List Event) (c : Endpoint S) → Shines es c → Shines (feedback u ∷ es) (with_sink c (m.told c.sink u))
-    shines_feedback u es c g = fed_back c.state u es c g
+    pub fed_back : (st : State) (u : Bool) (es : List Event) (c : Endpoint S) → ShinesIn st es c →
+        ShinesIn st (feedback u ∷ es) (with_sink c (m.told c.sink u))
+    fed_back st u es c = in_state st es (feedback u ∷ es) c (with_sink c (m.told c.sink u)) (told_dark u c) (λ flows. told_glows u es c)
 
     -- a taken data frame: its octets are released, or the sink is cleared
     module _ (es : List Event) (event : Event) (l : Link) (sink : S) (time : l.left ≡ l.watchdog) (some : 1 ≤ l.left) where
@@ -158,8 +130,7 @@ module _ {S : Type 0} (m : Ghosts S) where
           carried = λ i k lit.
               here octets took
               (noted ∙ ap (λ b. line_of before command (cond b None (Some SinkDown))) u)
-              (law.within sink (data_octets l.size.octets octets) i k
-              (subst (λ q. Lit q i k) (shown_is ∙ ap (λ b. cond b (m.would sink (data_octets l.size.octets octets)) zeros) u) lit));
+              (shown_within m law sink (data_octets l.size.octets octets) i k lit);
         }
         by false u =
             dark_glows (event ∷ es) _ (shown_is ∙ ap (λ b. cond b (m.would sink (data_octets l.size.octets octets)) zeros) u) 0 (omega (arith, time)) some

@@ -1,24 +1,25 @@
--- What a taken data frame does to the sink and to the record of frames, at either end; and how many pieces are in full.
--- Assumes nothing.
-use Rattle.std.proofs.Common.{◌≡◌, ℕ, ◌+◌, ◌-◌, ◌*◌, ◌/◌, ◌<◌, ◌≤◌, List, ◌∷◌, sym, ap, ◌∙◌, arith}
-use lib.Arith.{digits_div}
+-- What a taken data frame does to the sink, at either end. Assumes nothing.
+use Rattle.std.proofs.Common.{◌≡◌, ℕ, ◌≤◌, List, ◌∷◌, Option}
 use Rattle.faults.specs.declared.state.State.{State}
 use Rattle.faults.specs.declared.state.State.TheVariants as s
-use Rattle.length.specs.Lawful.{pieces}
+use Rattle.frame.specs.Commands.{command}
+use Rattle.frame.specs.Reading.{command_octet}
 use Rattle.frame.specs.declared.command.Command.{Command}
 use Rattle.frame.specs.declared.command.Command.TheVariants as c
 use Rattle.chain.specs.declared.numbers.Numbers.{Numbers}
 use Rattle.sink.specs.declared.Sink.{Ghosts}
 use Rattle.sink.specs.Lawful.{Lawful}
 use Rattle.shared_end.specs.declared.data_command.DataCommand.{DataCommand}
+use Rattle.shared_end.specs.declared.answer.FrameAnswer.{FrameAnswer}
+use Rattle.shared_end.specs.declared.endpoint.Endpoint.{Endpoint}
 use Rattle.shared_end.specs.declared.link.Link.{Link}
 use Rattle.shared_end.specs.declared.step.Act.{Act}
 use Rattle.shared_end.specs.declared.step.Act.TheVariants as a
-use Rattle.shared_end.specs.Endpoints.{acted, missed}
+use Rattle.shared_end.specs.Outcomes.{Outcome, is_taken}
+use Rattle.shared_end.specs.Endpoints.{acted, missed, raised}
 use Rattle.shared_end.specs.Calls.{line_of}
 use Rattle.history.specs.Events.{Event, Took, line}
-use Rattle.history.specs.Live as live
-use Rattle.history.specs.Live.{data_octets, Since}
+use Rattle.history.specs.Live.{data_octets}
 use Rattle.history.proofs.Shining.{Glows, released_glows, cleared_glows}
 
 -- a link for frames of the same data length
@@ -39,13 +40,8 @@ module _ {S : Type 0} (m : Ghosts S) (law : Lawful m) (es : List Event) (event :
   told_glows process_data took noted = released_glows m law es event l sink time some octets before command took noted
   told_glows fail_safe_data took noted = cleared_glows m law es event l sink time some
 
-pub data_since : {piece octets : List ℕ} {es : List Event} {event : Event} {k : Command} {act : Act} {ds ps cs : List (List ℕ)} →
-    Tells piece k act → Took k octets event → Since es ds ps cs → Since (event ∷ es) (octets ∷ ds) ps cs
-data_since process_data took since = live.process_data took since
-data_since fail_safe_data took since = live.fail_safe_data took since
-
--- so many pieces of d octets carry k octets, and not one less
-pub in_full : (d k count : ℕ) → 2 ≤ d → k ≤ count * d → count * d < k + d → count ≡ pieces d k
-in_full d k count low enough few =
-    let rest : k + d - 1 ≡ count * d + (k + d - 1 - count * d) = omega arith in
-    sym (ap (λ n. n / d) rest ∙ digits_div count {m = d} {r = k + d - 1 - count * d} (omega arith))
+-- what the answer says of a frame of a kind and its outcome
+pub record Says {S X : Type 0} (m : Ghosts S) (e : Endpoint S) (octets : List ℕ) (r : FrameAnswer) (k : Option Command) (o : Outcome X) : Type 0 where
+  pub kind_is : command (command_octet octets) ≡ k
+  pub taken_is : r.taken ≡ is_taken o
+  pub line_is : r.line ≡ line_of e.state (command_octet octets) (raised m e o)

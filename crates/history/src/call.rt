@@ -1,4 +1,4 @@
-// A call of an end, for programs that make a list of calls.
+// A call of an end, for programs that make a list of calls. An enum and no closure: the contract of a run names its calls.
 use shared_end::data_command::DataCommand;
 
 #[derive(Clone, Copy)]

@@ -1,4 +1,3 @@
-pub mod Choosing
 pub mod Pieces
 pub mod Moves
 pub mod Progress

@@ -1,10 +1,8 @@
 -- How far a slave's connection has come, by its state, over every history. Assumes nothing.
-use Rattle.std.proofs.Common.{◌≡◌, ℕ, ◌+◌, ◌*◌, ◌<◌, ◌≤◌, List, [], ◌∷◌, ◌++◌, length, take, Some, Ok, Option, sym, refl, ap, ◌∙◌, arith, ltb-false, ltb-true}
+use Rattle.std.proofs.Common.{◌≡◌, ℕ, ◌+◌, ◌*◌, ◌≤◌, List, [], ◌∷◌, ◌++◌, length, take, Some, Ok, Option, sym, refl, ap, ◌∙◌, arith, ltb-false, ltb-true}
 use Rattle.faults.specs.declared.state.State.{State}
 use Rattle.faults.specs.declared.state.State.TheVariants as s
-use Rattle.length.specs.Lawful.{pieces}
 use Rattle.length.proofs.Bounds.{bounds}
-use Rattle.frame.specs.Commands.{command}
 use Rattle.frame.specs.Reading.{command_octet}
 use Rattle.frame.specs.declared.command.Command.{Command}
 use Rattle.sink.specs.declared.Sink as sink
@@ -13,19 +11,18 @@ use Rattle.profile.specs.declared.profile.Profile as profile
 use Rattle.profile.specs.Numbers.{Ranges}
 use Rattle.shared_end.specs.declared.answer.FrameAnswer.{FrameAnswer}
 use Rattle.shared_end.specs.declared.endpoint.Endpoint.{Endpoint}
-use Rattle.shared_end.specs.declared.link.Link.{Link}
 use Rattle.shared_end.specs.declared.step.Act.{Act}
 use Rattle.shared_end.specs.declared.data_command.DataCommand.{DataCommand}
 use Rattle.chain.specs.declared.numbers.Numbers.{Numbers}
-use Rattle.shared_end.specs.Outcomes.{Message, Outcome, taken, is_taken, kept}
-use Rattle.shared_end.specs.Endpoints.{width, concluded, raised}
-use Rattle.shared_end.specs.Calls.{line_of}
+use Rattle.shared_end.specs.Outcomes.{Message, Outcome, taken, kept}
+use Rattle.shared_end.specs.Endpoints.{concluded}
 use Rattle.history.specs.Events.{Event, frame, Idle, Took}
 use Rattle.history.specs.Live as live
 use Rattle.history.specs.Live.{data_octets, Since}
-use Rattle.history.proofs.Shining.{ShinesIn, Shines, restarted_dark}
-use Rattle.history.proofs.Taking.{relinked, Tells, told_glows, data_since, in_full}
-use Rattle.history.proofs.Lasting.{Flowing, Path}
+use Rattle.history.proofs.Shining.{ShinesIn, restarted_dark}
+use Rattle.history.proofs.Taking.{relinked, Tells, told_glows, Says}
+use Rattle.history.proofs.Blocks.{Connecting, Parametrizing, Flowing, connecting_idle, parametrizing_idle, flowing_idle, connecting_none, parametrizing_none, flowing_none, connecting_more, parametrizing_more, flowing_more}
+use Rattle.history.proofs.Lasting.{Path, Inv}
 use Rattle.inlet.specs.declared.Inlet.{Inlet}
 use Rattle.inlet.specs.Storing.{word, with_piece}
 use Rattle.inlet.specs.Storing.{joined, watchdog_in}
@@ -33,69 +30,42 @@ use Rattle.inlet.proofs.Pieces.{take_placed, piece_length, length_joined, word_t
 use Rattle.inlet.proofs.Moves as moves
 use Rattle.inlet.proofs.Moves.{Move}
 
-module _ (d n : ℕ) (es : List Event) (x : Inlet) where
-  -- the connection block is coming in, or has come in
-  pub record Connecting : Type 0 where
-    pub connections : List (List ℕ)
-    pub since : Since es [] [] connections
-    pub stored_is : x.stored ≡ length connections * d
-    pub few : x.stored < 4 + d
+-- the pieces that came make up the block
+abbrev pub Block : (d : ℕ) → Inlet → List (List ℕ) → Type 0
+Block d x parameters = take x.stored x.block ≡ joined d parameters
 
-  -- the parameter block is coming in, or has come in
-  pub record Parametrizing : Type 0 where
-    pub parameters : List (List ℕ)
-    pub connections : List (List ℕ)
-    pub since : Since es [] parameters connections
-    pub connections_full : length connections ≡ pieces d 4
-    pub stored_is : x.stored ≡ length parameters * d
-    pub few : x.stored < 6 + n + d
-    pub block_is : take x.stored x.block ≡ joined d parameters
-
-  abbrev pub Progress : State → (w : ℕ) → Type 0
-  Progress s.Reset w = Unit {0}
-  Progress s.Session w = Since es [] [] []
-  Progress s.Connection w = Connecting
-  Progress s.Parameter w = Parametrizing
-  Progress s.Data w = Flowing d n (watchdog_in d) es w
+abbrev pub Progress : (d n : ℕ) → List Event → Inlet → State → (w : ℕ) → Type 0
+Progress d n es x s.Reset w = Unit {0}
+Progress d n es x s.Session w = Since es [] [] []
+Progress d n es x s.Connection w = Connecting d x.stored (4 + d) es
+Progress d n es x s.Parameter w = Parametrizing d x.stored (6 + n + d) (Block d x) es
+Progress d n es x s.Data w = Flowing d n (watchdog_in d) es w
 
 -- a call that takes no frame, gives no fault and is no reset
 pub on : (n : ℕ) (event : Event) (es : List Event) (st : State) (d w : ℕ) (x : Inlet) → Idle event → Progress d n es x st w → Progress d n (event ∷ es) x st w
 on n event es s.Reset d w x i p = tt
 on n event es s.Session d w x i p = live.idle i p
-on n event es s.Connection d w x i p = record { connections = p.connections; since = live.idle i p.since; stored_is = p.stored_is; few = p.few }
-on n event es s.Parameter d w x i p = record {
-  parameters = p.parameters;
-  connections = p.connections;
-  since = live.idle i p.since;
-  connections_full = p.connections_full;
-  stored_is = p.stored_is;
-  few = p.few;
-  block_is = p.block_is;
-}
-on n event es s.Data d w x i p = record {
-  datas = p.datas;
-  parameters = p.parameters;
-  connections = p.connections;
-  since = live.idle i p.since;
-  connections_full = p.connections_full;
-  parameters_full = p.parameters_full;
-  watchdog_is = p.watchdog_is;
-}
+on n event es s.Connection d w x i p = connecting_idle i p
+on n event es s.Parameter d w x i p = parametrizing_idle i p
+on n event es s.Data d w x i p = flowing_idle i p
 
 abbrev pub path : (n : ℕ) → Path Inlet
 path n = record {
   Along = λ es st d w x. Progress d n es x st w;
   idles = on n;
   restarts = λ event es st d w x p. tt;
+  count = λ x. n;
+  watchdog = λ x. watchdog_in;
+  flows = λ es d w x f. f;
 }
 
-module _ {S P N L U : Type 0} (m : sink.Ghosts S) (law : Lawful m) (p : profile.Ghosts P N L U) (ranges : Ranges p.numbers)
+module _ {S P : Type 0} (m : sink.Ghosts S) (law : Lawful m) (p : profile.Ghosts P) (ranges : Ranges p.USER_OCTETS p.LOWEST_WATCHDOG p.HIGHEST_WATCHDOG)
     (es : List Event) (e : Endpoint S) (x : Inlet) (octets : List ℕ) (session : ℕ) (r : FrameAnswer) where
   abbrev d : ℕ
   d = e.link.size.octets
 
   abbrev n : ℕ
-  n = p.numbers.octets
+  n = p.USER_OCTETS
 
   abbrev event : Event
   event = frame octets session (Ok r)
@@ -110,9 +80,8 @@ module _ {S P N L U : Type 0} (m : sink.Ghosts S) (law : Lawful m) (p : profile.
   high = (bounds d e.link.size.lawful).high
 
   -- the endpoint and the inlet after an outcome stand as the events say
-  pub record Stands (o : Outcome Inlet) : Type 0 where
-    pub shines : Shines m (event ∷ es) (concluded m e o)
-    pub progress : Progress (width (concluded m e o)) n (event ∷ es) (kept x o) (concluded m e o).state (concluded m e o).link.watchdog
+  abbrev Stands : Outcome Inlet → Type 0
+  Stands o = Inv m (path n) (event ∷ es) (concluded m e o) (kept x o)
 
   -- a piece of the parameter block is stored
   stored_block : (at : ℕ) (ps : List (List ℕ)) → at ≡ length ps * d → take at x.block ≡ joined d ps → (id : ℕ) →
@@ -121,86 +90,42 @@ module _ {S P N L U : Type 0} (m : sink.Ghosts S) (law : Lawful m) (p : profile.
       let l : length (take at x.block) ≡ at = ap length same ∙ length_joined d ps high ∙ sym count in
       take_placed d at x.block piece l (piece_length d octets high) ∙ ap (λ b. b ++ take d piece) same
 
-  -- what the answer says of an outcome
-  pub record Says (k : Option Command) (o : Outcome Inlet) : Type 0 where
-    pub kind_is : command (command_octet octets) ≡ k
-    pub taken_is : r.taken ≡ is_taken o
-    pub line_is : r.line ≡ line_of e.state (command_octet octets) (raised m e o)
-
   -- a data frame is taken
-  module _ (msg : Message) (ns : Numbers) (os : List ℕ) (cm : DataCommand) (w : ℕ) (some : 1 ≤ w)
-      (ds ps cs : List (List ℕ)) (since : Since es ds ps cs) (fc : length cs ≡ pieces d 4) (fp : length ps ≡ pieces d (6 + n)) (same : w ≡ watchdog_in d ps) where
-    abbrev l' : Link
-    l' = relinked e.link ns os cm w w
+  data_stands : (msg : Message) (ns : Numbers) (os : List ℕ) (cm : DataCommand) (w : ℕ) → 1 ≤ w → Flowing d n (watchdog_in d) es w → {k : Command} {act : Act} →
+      Tells piece k act → Says m e octets r (Some k) (taken s.Data act msg (relinked e.link ns os cm w w) x) → Stands (taken s.Data act msg (relinked e.link ns os cm w w) x)
+  data_stands msg ns os cm w some q {k} tells says =
+      let took : Took k octets event = (says.taken_is, refl, says.kind_is) in
+      record {
+        shines = told_glows m law es event (relinked e.link ns os cm w w) e.sink refl some octets e.state (command_octet octets) tells took says.line_is;
+        along = flowing_more octets tells took q;
+      }
 
-    flowing : Since (event ∷ es) (octets ∷ ds) ps cs → Flowing d n (watchdog_in d) (event ∷ es) w
-    flowing q = record { datas = octets ∷ ds; parameters = ps; connections = cs; since = q; connections_full = fc; parameters_full = fp; watchdog_is = same }
-
-    data_stands : {k : Command} {act : Act} → Tells piece k act → Says (Some k) (taken s.Data act msg l' x) → Stands (taken s.Data act msg l' x)
-    data_stands {k} tells says =
-        let took : Took k octets event = (says.taken_is, refl, says.kind_is) in
-        record {
-          shines = told_glows m law es event l' e.sink refl some octets e.state (command_octet octets) tells took says.line_is;
-          progress = flowing (data_since tells took since);
-        }
-
-  pub stands : (st : State) (k : Option Command) (o : Outcome Inlet) → Move p e.link x octets piece st k o → Says k o →
+  pub stands : (st : State) (k : Option Command) (o : Outcome Inlet) → Move p e.link x octets piece st k o → Says m e octets r k o →
       ShinesIn m st es e → Progress d n es x st e.link.watchdog → Stands o
-  stands st k o (moves.broken f) says g q = record { shines = restarted_dark m law e; progress = tt }
-  stands st k o (moves.reset msg ns os cm w t) says g q = record { shines = law.effects.shown_cleared e.sink; progress = tt }
-  stands st k o (moves.session msg ns os cm w t) says g q = record {
-    shines = law.effects.shown_cleared e.sink;
-    progress = live.session octets (says.taken_is, refl, says.kind_is);
-  }
-  stands st k o (moves.first_connection msg ns os cm w t id) says g q = record {
-    shines = g;
-    progress = record {
-      connections = octets ∷ [];
-      since = live.connection (says.taken_is, refl, says.kind_is) q;
-      stored_is = omega arith;
-      few = omega (arith, low);
-    };
-  }
-  stands st k o (moves.next_connection msg ns os cm w t id more) says g q = record {
-    shines = g;
-    progress = record {
-      connections = octets ∷ q.connections;
-      since = live.connection (says.taken_is, refl, says.kind_is) q.since;
-      stored_is = ap (λ i. i + d) q.stored_is ∙ omega arith;
-      few = omega (arith, ltb-true x.stored 4 more);
-    };
-  }
-  stands st k o (moves.first_parameter msg ns os cm w t id done) says g q = record {
-    shines = g;
-    progress = record {
-      parameters = octets ∷ [];
-      connections = q.connections;
-      since = live.parameter (says.taken_is, refl, says.kind_is) q.since;
-      connections_full =
-          in_full d 4 (length q.connections) low (omega (arith, ltb-false x.stored 4 done, q.stored_is)) (omega (arith, q.few, q.stored_is));
-      stored_is = omega arith;
-      few = omega (arith, low);
-      block_is = stored_block 0 [] (omega arith) refl id;
-    };
-  }
+  stands st k o (moves.broken f) says g q = record { shines = restarted_dark m law e; along = tt }
+  stands st k o (moves.reset msg ns os cm w t) says g q = record { shines = law.effects.shown_cleared e.sink; along = tt }
+  stands st k o (moves.session msg ns os cm w t) says g q =
+      record { shines = law.effects.shown_cleared e.sink; along = live.session octets (says.taken_is, refl, says.kind_is) }
+  stands st k o (moves.first_connection msg ns os cm w t id) says g q =
+      let none : Connecting d 0 1 es = connecting_none (omega arith) q in
+      record { shines = g; along = connecting_more octets (says.taken_is, refl, says.kind_is) (omega (arith, low)) none }
+  stands st k o (moves.next_connection msg ns os cm w t id more) says g q =
+      record { shines = g; along = connecting_more octets (says.taken_is, refl, says.kind_is) (omega (arith, ltb-true x.stored 4 more)) q }
+  stands st k o (moves.first_parameter msg ns os cm w t id done) says g q =
+      let none : Parametrizing d 0 1 (λ parameters. take 0 x.block ≡ joined d parameters) es = parametrizing_none low (ltb-false x.stored 4 done) (omega arith) refl q in
+      record {
+        shines = g;
+        along = parametrizing_more octets (says.taken_is, refl, says.kind_is) (omega (arith, low)) none (stored_block 0 none.parameters none.at_is none.holds id);
+      }
   stands st k o (moves.next_parameter msg ns os cm w t id more) says g q = record {
     shines = g;
-    progress = record {
-      parameters = octets ∷ q.parameters;
-      connections = q.connections;
-      since = live.parameter (says.taken_is, refl, says.kind_is) q.since;
-      connections_full = q.connections_full;
-      stored_is = ap (λ i. i + d) q.stored_is ∙ omega arith;
-      few = omega (arith, ltb-true x.stored (6 + n) more);
-      block_is = stored_block x.stored q.parameters q.stored_is q.block_is id;
-    };
+    along =
+        parametrizing_more octets (says.taken_is, refl, says.kind_is) (omega (arith, ltb-true x.stored (6 + n) more)) q
+        (stored_block x.stored q.parameters q.at_is q.holds id);
   }
   stands st k o (moves.first_data msg ns os cm tells done lowest) says g q =
       let enough : 6 + n ≤ x.stored = ltb-false x.stored (6 + n) done in
-      data_stands msg ns os cm (word x.block 2) (omega (arith, ranges.lowest_low, lowest)) [] q.parameters q.connections q.since q.connections_full
-      (in_full d (6 + n) (length q.parameters) low (omega (arith, enough, q.stored_is)) (omega (arith, q.few, q.stored_is)))
-      (sym (word_take x.stored 2 x.block (omega (arith, enough))) ∙ ap (λ b. word b 2) q.block_is)
-      tells says
+      data_stands msg ns os cm (word x.block 2) (omega (arith, ranges.lowest_low, lowest))
+      (flowing_none low enough q (sym (word_take x.stored 2 x.block (omega (arith, enough))) ∙ ap (λ b. word b 2) q.holds)) tells says
   stands st k o (moves.next_data msg ns os cm tells) says g q =
-      data_stands msg ns os cm e.link.watchdog (omega (arith, g.time, g.some)) q.datas q.parameters q.connections q.since q.connections_full
-      q.parameters_full q.watchdog_is tells says
+      data_stands msg ns os cm e.link.watchdog (omega (arith, g.time, g.some)) q tells says

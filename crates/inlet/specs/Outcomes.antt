@@ -16,14 +16,14 @@ use Rattle.inlet.specs.declared.Inlet.{Inlet}
 use Rattle.inlet.specs.declared.Limits.{Limits}
 use Rattle.inlet.specs.Steps.{first_connection, next_piece, first_parameter, reset_taken, session_taken, next_data, first_data}
 
-module _ {P N L U : Type 0} (m : Ghosts P N L U) where
+module _ {P : Type 0} (m : Ghosts P) where
   -- the numbers of the profile
   abbrev pub limits : Limits
-  limits = record { user_octets = m.numbers.octets; lowest = m.numbers.lowest; highest = m.numbers.highest }
+  limits = record { user_octets = m.USER_OCTETS; lowest = m.LOWEST_WATCHDOG; highest = m.HIGHEST_WATCHDOG }
 
   -- the fault that the profile's verdict on the stored user octets is
   abbrev pub judgement : Inlet → Option Fault
-  judgement x = verdicts.fault (m.judged (take m.numbers.octets (drop 6 x.block)))
+  judgement x = verdicts.fault (m.judged (take m.USER_OCTETS (drop 6 x.block)))
 
   module _ (l : Link) (x : Inlet) (octets piece : List ℕ) where
     abbrev pub on_connection : State → Outcome Inlet
@@ -35,7 +35,7 @@ module _ {P N L U : Type 0} (m : Ghosts P N L U) where
 
     -- the parameter block has 6 octets and the profile's user octets
     abbrev pub next_parameter : Outcome Inlet
-    next_parameter = next_piece l x octets s.Parameter c.Parameter (6 + m.numbers.octets) piece
+    next_parameter = next_piece l x octets s.Parameter c.Parameter (6 + m.USER_OCTETS) piece
 
     abbrev pub on_parameter : State → Outcome Inlet
     on_parameter s.Reset = fault InvalidCommand

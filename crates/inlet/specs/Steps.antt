@@ -1,5 +1,5 @@
 -- What a slave makes of a frame, by its kind and the slave's state. Assumes nothing.
-use Rattle.std.specs.Prelude.{◌≡◌, ℕ, ◌+◌, true, false, cond, not, ◌&&◌, List, Some, None, Option, ◌==◌, nat_le, nat_lt}
+use Rattle.std.specs.Prelude.{◌≡◌, ℕ, ◌+◌, true, false, cond, not, ◌&&◌, List, Some, Ok, Err, Option, Result, ◌==◌, nat_le, nat_lt}
 use Rattle.faults.specs.declared.fault.Fault.{Fault}
 use Rattle.faults.specs.declared.fault.Fault.TheVariants.{InvalidCommand, InvalidConnectionId, InvalidCrc, InvalidAddress, InvalidParameterLength, InvalidWatchdog, InvalidUserLength}
 use Rattle.faults.specs.declared.state.State.{State}
@@ -10,7 +10,7 @@ use Rattle.frame.specs.declared.command.Command.TheVariants as c
 use Rattle.chain.specs.Numbers.{fresh, is_right}
 use Rattle.shared_end.specs.Link.{numbered, freshened, after_writing, after_reading}
 use Rattle.shared_end.specs.Data.{frame_command, carried, after_data}
-use Rattle.shared_end.specs.Outcomes.{Outcome, taken, fault, Sends, reset_message}
+use Rattle.shared_end.specs.Outcomes.{Outcome, taken, fault, unless, Sends, reset_message}
 use Rattle.shared_end.specs.declared.link.Link.{Link}
 use Rattle.shared_end.specs.declared.step.Act.{Act}
 use Rattle.shared_end.specs.declared.step.Act.TheVariants as a
@@ -31,9 +31,9 @@ pub record Answered (l : Link) (x : Inlet) (s : State) (k : Command) (at : ℕ) 
 abbrev pub opened : Link → List ℕ → Link
 opened l octets = after_reading (freshened l) octets
 
-abbrev pub Opens : Link → List ℕ → Option Link → Type 0
-Opens l octets (Some o) = (is_right fresh l.size.octets octets ≡ true) × (o ≡ opened l octets)
-Opens l octets None = is_right fresh l.size.octets octets ≡ false
+abbrev pub Opens : Link → List ℕ → Result Link Fault → Type 0
+Opens l octets (Ok o) = (is_right fresh l.size.octets octets ≡ true) × (o ≡ opened l octets)
+Opens l octets (Err f) = (is_right fresh l.size.octets octets ≡ false) × (f ≡ InvalidCrc)
 
 module _ (l : Link) (x : Inlet) (octets : List ℕ) where
   abbrev d : ℕ
@@ -121,10 +121,6 @@ module _ (l : Link) (x : Inlet) (octets : List ℕ) where
       (cond (not (word x.block 0 == 2)) (Some InvalidParameterLength)
       (cond (not (nat_le p.lowest (word x.block 2) && nat_le (word x.block 2) p.highest)) (Some InvalidWatchdog)
       (cond (not (word x.block 4 == p.user_octets)) (Some InvalidUserLength) verdict))))
-
-  abbrev pub unless : Option Fault → Outcome Inlet → Outcome Inlet
-  unless (Some f) o = fault f
-  unless None o = o
 
   -- the first data frame, in state Parameter
   abbrev pub first_data : Limits → Option Fault → Act → Outcome Inlet

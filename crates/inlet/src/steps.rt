@@ -1,11 +1,15 @@
 // The steps of a slave, one function for each.
+// `octets` is the whole frame and `body` what its kind borrows of it. `Received` is no plainer: it has a data length of its own, and
+// each contract would have to ask that this is the link's.
 ghost use Rattle.std.specs.Prelude.{◌≡◌, ◌≤◌};
+ghost use Rattle.std.specs.Result.{result_err};
+ghost use Rattle.faults.specs.declared.state.State.TheVariants as state;
 ghost use Rattle.frame.specs.Reading.{padded};
+ghost use Rattle.frame.specs.declared.command.Command.TheVariants as command;
 ghost use Rattle.shared_end.specs.Outcomes.{Comes};
 ghost use Rattle.inlet.specs.Storing.{word};
 ghost use Rattle.inlet.specs.Steps.{Answered, first_connection, next_piece, first_parameter, Opens, reset_taken, session_taken, data_taken, next_data, parameter_fault, first_data};
 
-use crate::storing::place;
 use crate::{Inlet, Limits};
 use faults::fault::Fault;
 use faults::state::State;
@@ -29,11 +33,28 @@ impl Inlet {
         if id == 0 || id != u16::from_le_bytes([piece[0], piece[1]]) {
             return Err(Fault::InvalidConnectionId);
         }
-        if !link.take(octets) {
-            return Err(Fault::InvalidCrc);
-        }
+        link.take(octets)?;
         self.id = id;
         Ok(self.answer(link, State::Connection, Command::Connection, 0, &piece))
+    }
+
+    // The next piece of the connection block, which has 4 octets.
+    pub fn next_connection(
+        &mut self,
+        link: &mut Link,
+        octets: &[u8],
+        body: &[u8],
+    ) -> Result<Step, Fault>
+        ensures { Comes (next_piece link.old self.old octets.now state.Connection command.Connection 4 (padded body.now)) link.old self.old result link.new self.new }
+    {
+        self.next_piece(
+            link,
+            State::Connection,
+            Command::Connection,
+            4,
+            octets,
+            body,
+        )
     }
 
     // The next piece of a block of so many octets.
@@ -52,12 +73,8 @@ impl Inlet {
         if self.stored >= total {
             return Err(Fault::InvalidCommand);
         }
-        if link.id_in(octets) != self.id {
-            return Err(Fault::InvalidConnectionId);
-        }
-        if !link.take(octets) {
-            return Err(Fault::InvalidCrc);
-        }
+        link.check_id(octets, self.id)?;
+        link.take(octets)?;
         Ok(self.answer(link, state, command, self.stored, &data_of(body)))
     }
 
@@ -73,15 +90,11 @@ impl Inlet {
         if self.stored < 4 {
             return Err(Fault::InvalidCommand);
         }
-        if link.id_in(octets) != self.id {
-            return Err(Fault::InvalidConnectionId);
-        }
+        link.check_id(octets, self.id)?;
         if self.number_at(2) != self.address {
             return Err(Fault::InvalidAddress);
         }
-        if !link.take(octets) {
-            return Err(Fault::InvalidCrc);
-        }
+        link.take(octets)?;
         Ok(self.answer(
             link,
             State::Parameter,
@@ -95,9 +108,7 @@ impl Inlet {
     pub fn take_reset(&self, link: &mut Link, octets: &[u8]) -> Result<Step, Fault>
         ensures { Comes (reset_taken link.old self.now octets.now) link.old self.now result link.new self.now }
     {
-        let Some(_) = opened(link, octets) else {
-            return Err(Fault::InvalidCrc);
-        };
+        let _opened = opened(link, octets)?;
         link.freshen();
         Ok(Step {
             state: State::Reset,
@@ -110,9 +121,7 @@ impl Inlet {
     pub fn take_session(&self, link: &mut Link, octets: &[u8], session: u16) -> Result<Step, Fault>
         ensures { Comes (session_taken link.old self.now octets.now session) link.old self.now result link.new self.now }
     {
-        let Some(mut opened) = opened(link, octets) else {
-            return Err(Fault::InvalidCrc);
-        };
+        let mut opened = opened(link, octets)?;
         let reply = opened.write(Command::Session, 0, &numbered(session));
         *link = opened;
         Ok(Step {
@@ -126,9 +135,7 @@ impl Inlet {
     pub fn next_data(&self, link: &mut Link, octets: &[u8], act: Act) -> Result<Step, Fault>
         ensures { Comes (next_data link.old self.now octets.now act) link.old self.now result link.new self.now }
     {
-        if link.id_in(octets) != self.id {
-            return Err(Fault::InvalidConnectionId);
-        }
+        link.check_id(octets, self.id)?;
         let watchdog = link.watchdog;
         self.take_data(link, octets, act, watchdog)
     }
@@ -144,35 +151,36 @@ impl Inlet {
     ) -> Result<Step, Fault>
         ensures { Comes (first_data link.old self.now octets.now limits verdict act) link.old self.now result link.new self.now }
     {
-        match self.parameter_fault(link, octets, limits, verdict) {
-            Some(fault) => Err(fault),
-            None => self.take_data(link, octets, act, self.number_at(2)),
-        }
+        self.check_parameters(link, octets, limits, verdict)?;
+        self.take_data(link, octets, act, self.number_at(2))
     }
 
-    // What is wrong with the parameter block.
-    fn parameter_fault(
+    // Whether the parameter block is in order.
+    fn check_parameters(
         &self,
         link: &Link,
         octets: &[u8],
         limits: Limits,
         verdict: Option<Fault>,
-    ) -> Option<Fault>
-        ensures { result ≡ parameter_fault link.now self.now octets.now limits verdict }
+    ) -> Result<(), Fault>
+        ensures { result_err result ≡ parameter_fault link.now self.now octets.now limits verdict }
     {
-        let watchdog = self.number_at(2);
-        if self.stored < 6 + limits.user_octets as usize {
-            Some(Fault::InvalidCommand)
-        } else if link.id_in(octets) != self.id {
-            Some(Fault::InvalidConnectionId)
-        } else if self.number_at(0) != 2 {
-            Some(Fault::InvalidParameterLength)
-        } else if watchdog < limits.lowest || watchdog > limits.highest {
-            Some(Fault::InvalidWatchdog)
-        } else if self.number_at(4) != limits.user_octets {
-            Some(Fault::InvalidUserLength)
-        } else {
-            verdict
+        if self.stored < 6 + usize::from(limits.user_octets) {
+            return Err(Fault::InvalidCommand);
+        }
+        link.check_id(octets, self.id)?;
+        if self.number_at(0) != 2 {
+            return Err(Fault::InvalidParameterLength);
+        }
+        if !(limits.lowest..=limits.highest).contains(&self.number_at(2)) {
+            return Err(Fault::InvalidWatchdog);
+        }
+        if self.number_at(4) != limits.user_octets {
+            return Err(Fault::InvalidUserLength);
+        }
+        match verdict {
+            Some(fault) => Err(fault),
+            None => Ok(()),
         }
     }
 
@@ -186,9 +194,7 @@ impl Inlet {
     ) -> Result<Step, Fault>
         ensures { Comes (data_taken link.old self.now octets.now act watchdog) link.old self.now result link.new self.now }
     {
-        if !link.take(octets) {
-            return Err(Fault::InvalidCrc);
-        }
+        link.take(octets)?;
         link.watchdog = watchdog;
         let reply = link.write_data(self.id);
         Ok(Step {
@@ -218,8 +224,9 @@ impl Inlet {
         requires { at ≤ 32 }
         ensures { Answered link.old self.old state command at piece.now result link.new self.new }
     {
-        self.block = place(link.size, at, self.block, piece);
-        self.stored = at + link.size.octets();
+        let d = link.size.octets();
+        self.block[at..at + d].copy_from_slice(&piece[0..d]);
+        self.stored = at + d;
         let reply = link.write(command, self.id, piece);
         Step {
             state,
@@ -230,10 +237,11 @@ impl Inlet {
 }
 
 // The link after a frame that is right by fresh numbers.
-fn opened(link: &Link, octets: &[u8]) -> Option<Link>
+fn opened(link: &Link, octets: &[u8]) -> Result<Link, Fault>
     ensures { Opens link.now octets.now result }
 {
     let mut link = *link;
     link.freshen();
-    if link.take(octets) { Some(link) } else { None }
+    link.take(octets)?;
+    Ok(link)
 }

@@ -1,7 +1,7 @@
 // Points of the layers over the named sinks. What each stack shows is proved as an equation, and then run.
 #![tactic(auto)]
 
-ghost use Rattle.std.specs.Prelude.{◌≡◌, ◌∷◌, replicate};
+ghost use Rattle.std.specs.Prelude.{◌≡◌, [], ◌∷◌, replicate};
 
 use layers::{HoldOff, Mask};
 use sink::Sink;
@@ -21,8 +21,8 @@ pub fn masked_bank() -> [u8; 32]
 }
 
 // A hold-off of 2 over a bank: the third accepted release shows. What is shown after each of the three.
-pub fn held_bank() -> ([u8; 32], [u8; 32], [u8; 32])
-    ensures { result ≡ (replicate 32 0, replicate 32 0, replicate 32 255) }
+pub fn held_bank() -> [[u8; 32]; 3]
+    ensures { result ≡ replicate 32 0 ∷ replicate 32 0 ∷ replicate 32 255 ∷ [] }
 {
     let mut stack = HoldOff::new(2, Bank::new());
     let _ = stack.release(&FULL);
@@ -30,7 +30,7 @@ pub fn held_bank() -> ([u8; 32], [u8; 32], [u8; 32])
     let _ = stack.release(&FULL);
     let second = stack.shows();
     let _ = stack.release(&FULL);
-    (first, second, stack.shows())
+    [first, second, stack.shows()]
 }
 
 // Refused releases do not count: after two of them the first accepted one is still held off.
@@ -46,24 +46,27 @@ pub fn refused_releases() -> [u8; 32]
     stack.shows()
 }
 
+// What any stack shows at the second release.
+fn second_release<S: Sink + Drop>(mut stack: S) -> [u8; 32]
+    ensures { result ≡ S.shown (S.released (S.released stack FULL) FULL) }
+{
+    let _ = stack.release(&FULL);
+    let _ = stack.release(&FULL);
+    stack.shows()
+}
+
 // A mask over a hold-off of 1 over a drive, at the second release.
 pub fn mask_over_hold_off() -> [u8; 32]
     ensures { result ≡ 6 ∷ replicate 31 0 }
 {
-    let mut stack = Mask::new([0x36; 32], HoldOff::new(1, Drive::new()));
-    let _ = stack.release(&FULL);
-    let _ = stack.release(&FULL);
-    stack.shows()
+    second_release(Mask::new([0x36; 32], HoldOff::new(1, Drive::new())))
 }
 
 // The same layers the other way round show the same.
 pub fn hold_off_over_mask() -> [u8; 32]
     ensures { result ≡ 6 ∷ replicate 31 0 }
 {
-    let mut stack = HoldOff::new(1, Mask::new([0x36; 32], Drive::new()));
-    let _ = stack.release(&FULL);
-    let _ = stack.release(&FULL);
-    stack.shows()
+    second_release(HoldOff::new(1, Mask::new([0x36; 32], Drive::new())))
 }
 
 #[cfg(test)]
@@ -73,8 +76,7 @@ mod tests {
     #[test]
     fn single_layers(rt: HostRuntime) {
         assert!(rt; masked_bank() == LOW_HALF);
-        let (first, second, third) = held_bank();
-        assert!(rt; first == [0; 32] && second == [0; 32] && third == FULL);
+        assert!(rt; held_bank() == [[0; 32], [0; 32], FULL]);
         assert!(rt; refused_releases() == [0; 32]);
     }
 

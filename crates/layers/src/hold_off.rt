@@ -57,11 +57,9 @@ impl<S: Sink> Sink for HoldOff<S> {
         if self.count == 0 {
             return self.below.release(octets);
         }
-        let answer = self.below.release(&[0; 32]);
-        if answer.is_ok() {
-            self.count -= 1;
-        }
-        answer
+        self.below.release(&[0; 32])?;
+        self.count -= 1;
+        Ok(())
     }
 
     fn clear(&mut self) {

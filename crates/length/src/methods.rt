@@ -11,7 +11,7 @@ impl DataLength {
     pub fn new(octets: usize) -> Result<DataLength, Refusal>
         ensures { Built octets result }
     {
-        if octets >= 2 && octets <= 32 && octets % 2 == 0 {
+        if (2..=32).contains(&octets) && octets.is_multiple_of(2) {
             Ok(DataLength { octets })
         } else {
             Err(Refusal::UnlawfulLength)
@@ -43,17 +43,18 @@ impl DataLength {
     }
 
     // How many pieces of this length carry so many octets.
+    #[tactic(auto, using(crate::proofs::Rounding::rounded_up))]
     pub fn pieces(self, octets: u32) -> usize
         ensures value { result ≡ pieces self.octets octets }
         ensures high_bound { result ≤ octets + 31 }
     {
-        (octets as usize + self.octets - 1) / self.octets
+        (octets as usize).div_ceil(self.octets)
     }
 
     // How many exchanges bring a connection back after a reset of its master, until the slave's outputs are set.
     pub fn exchanges(self, user_octets: u16) -> usize
         ensures { result ≡ exchanges self.octets user_octets }
     {
-        3 + self.pieces(4) + self.pieces(6 + user_octets as u32)
+        3 + self.pieces(4) + self.pieces(6 + u32::from(user_octets))
     }
 }

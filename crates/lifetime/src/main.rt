@@ -5,7 +5,6 @@
 
 mod connecting;
 mod ends;
-mod outputs;
 
 use commissioned::{commission, dismiss};
 use connecting::live;

@@ -1,4 +1,5 @@
-// The master end of a connection. As yet it only holds the plan that it was made from.
+// The master end of a connection, as far as its plan goes: it only holds the plan that it was made from. The whole master, which
+// is made of a sink and user octets too, is no plainer for a program that shows what becomes of a plan.
 #![tactic(auto)]
 
 ghost use Rattle.std.specs.Prelude.{◌≡◌};

@@ -16,7 +16,8 @@ pub struct Master<S> {
     plan: SealedPlan,
 }
 
-// What a master leaves: its sink, cleared, and its plan, reopened.
+// What a master leaves: its sink, cleared, and its plan, reopened. A struct for both ends is no plainer: its second field would
+// have no name of its own.
 #[derive(Drop)]
 pub struct Dismissed<S> {
     pub sink: S,

@@ -1,6 +1,6 @@
 -- How long blocks and their pieces are. Assumes nothing.
 use Rattle.std.proofs.Common.{◌≡◌, ℕ, ◌-◌, ◌≤◌, min, List, ◌++◌, length, take, drop, replicate, refl, ap, arith, length-append, length-drop, length-take}
-use lib.ListN.{length-replicate}
+use Rattle.std.proofs.lemmas.List.{length-replicate}
 use Rattle.plan.specs.declared.sealed_plan.SealedPlan.{SealedPlan}
 use Rattle.outlet.specs.declared.blocks.Block.{Block}
 use Rattle.outlet.specs.declared.blocks.Block.TheVariants.{Connection, Parameter}

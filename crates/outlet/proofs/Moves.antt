@@ -1,5 +1,6 @@
 -- What a frame can come to at a master: every outcome is one of a few kinds. Assumes nothing.
-use Rattle.std.proofs.Common.{◌≡◌, ℕ, ◌+◌, Bool, true, false, cond, ltb, List, Some, None, Option, refl}
+use Rattle.std.proofs.Common.{◌≡◌, ℕ, ◌+◌, true, false, ltb, List, Some, None, Option}
+use Rattle.std.proofs.lemmas.Bool.{cond_both}
 use Rattle.faults.specs.declared.fault.Fault.{Fault}
 use Rattle.faults.specs.declared.fault.Fault.TheVariants.{InvalidCommand, UnknownCommand}
 use Rattle.faults.specs.declared.state.State.{State}
@@ -12,11 +13,12 @@ use Rattle.shared_end.specs.declared.data_command.DataCommand.{DataCommand}
 use Rattle.shared_end.specs.declared.link.Link.{Link}
 use Rattle.shared_end.specs.declared.step.Act.{Act}
 use Rattle.shared_end.specs.declared.step.Act.TheVariants as a
-use Rattle.shared_end.specs.Outcomes.{Outcome, taken, fault, Message}
+use Rattle.shared_end.specs.Outcomes.{unless, Outcome, taken, fault, Message}
+use Rattle.shared_end.proofs.Unless.{unless_both}
 use Rattle.history.proofs.Taking.{relinked, Tells, process_data, fail_safe_data}
 use Rattle.outlet.specs.declared.Outlet.{Outlet}
 use Rattle.outlet.specs.declared.blocks.Block.TheVariants as b
-use Rattle.outlet.specs.Steps.{with_at, piece_out, data_out, behind, next_out, unless, read, crc_fault, id_fault, answer_fault}
+use Rattle.outlet.specs.Steps.{with_at, piece_out, data_out, behind, next_out, read, crc_fault, id_fault, answer_fault}
 use Rattle.outlet.specs.Outcomes as outcomes
 use Rattle.outlet.specs.Outcomes.{outcome}
 
@@ -49,12 +51,7 @@ module _ (l : Link) (o : Outlet) (p : SealedPlan) (octets piece : List ℕ) wher
         Move s.Data (Some k) (taken s.Data act msg (again ns os cm) o)
 
   unfaulted : {st : State} {k : Option Command} (q : Option Fault) (out : Outcome Outlet) → Move st k out → Move st k (unless q out)
-  unfaulted (Some f) out h = broken f
-  unfaulted None out h = h
-
-  tested : {st : State} {k : Option Command} (t : Bool) (x y : Outcome Outlet) → (t ≡ true → Move st k x) → (t ≡ false → Move st k y) → Move st k (cond t x y)
-  tested true x y h g = h refl
-  tested false x y h g = g refl
+  unfaulted {st} {k} q out h = unless_both (Move st k) q out broken (λ e. h)
 
   abbrev r : Link
   r = read l o p octets
@@ -71,7 +68,7 @@ module _ (l : Link) (o : Outlet) (p : SealedPlan) (octets piece : List ℕ) wher
   on_connection s.Session = broken InvalidCommand
   on_connection s.Connection =
       unfaulted (answer_fault l o p octets b.Connection piece) (next_out r o p b.Connection)
-      (tested (ltb (o.at + d) 4) (piece_out r o p b.Connection (o.at + d)) (behind r o p b.Connection)
+      (cond_both (ltb (o.at + d) 4) (piece_out r o p b.Connection (o.at + d)) (behind r o p b.Connection) (Move s.Connection (Some c.Connection))
       (λ h. next_connection _ _ _ _ h) (λ h. first_parameter _ _ _ _ h))
   on_connection s.Parameter = broken InvalidCommand
   on_connection s.Data = broken InvalidCommand
@@ -82,7 +79,7 @@ module _ (l : Link) (o : Outlet) (p : SealedPlan) (octets piece : List ℕ) wher
   on_parameter s.Connection = broken InvalidCommand
   on_parameter s.Parameter =
       unfaulted (answer_fault l o p octets b.Parameter piece) (next_out r o p b.Parameter)
-      (tested (ltb (o.at + d) total) (piece_out r o p b.Parameter (o.at + d)) (behind r o p b.Parameter)
+      (cond_both (ltb (o.at + d) total) (piece_out r o p b.Parameter (o.at + d)) (behind r o p b.Parameter) (Move s.Parameter (Some c.Parameter))
       (λ h. next_parameter _ _ _ _ h) (λ h. first_data _ _ _ _ h))
   on_parameter s.Data = broken InvalidCommand
 

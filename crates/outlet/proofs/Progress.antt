@@ -1,10 +1,8 @@
 -- How far a master's connection has come, by its state, over every history. Assumes nothing.
-use Rattle.std.proofs.Common.{◌≡◌, ℕ, ◌+◌, ◌*◌, ◌<◌, ◌≤◌, List, [], ◌∷◌, length, Ok, Option, refl, ap, ◌∙◌, arith, ltb-false, ltb-true}
+use Rattle.std.proofs.Common.{◌≡◌, ℕ, ◌+◌, ◌≤◌, List, ◌∷◌, Ok, Option, refl, arith, ltb-false, ltb-true}
 use Rattle.faults.specs.declared.state.State.{State}
 use Rattle.faults.specs.declared.state.State.TheVariants as s
-use Rattle.length.specs.Lawful.{pieces}
 use Rattle.length.proofs.Bounds.{bounds}
-use Rattle.frame.specs.Commands.{command}
 use Rattle.frame.specs.Reading.{command_octet}
 use Rattle.frame.specs.declared.command.Command.{Command}
 use Rattle.plan.specs.declared.sealed_plan.SealedPlan.{SealedPlan}
@@ -12,15 +10,15 @@ use Rattle.sink.specs.declared.Sink.{Ghosts}
 use Rattle.sink.specs.Lawful.{Lawful}
 use Rattle.shared_end.specs.declared.answer.FrameAnswer.{FrameAnswer}
 use Rattle.shared_end.specs.declared.endpoint.Endpoint.{Endpoint}
-use Rattle.shared_end.specs.Outcomes.{Outcome, is_taken, kept}
-use Rattle.shared_end.specs.Endpoints.{width, concluded, raised}
-use Rattle.shared_end.specs.Calls.{line_of}
+use Rattle.shared_end.specs.Outcomes.{Outcome, kept}
+use Rattle.shared_end.specs.Endpoints.{concluded}
 use Rattle.history.specs.Events.{Event, frame, Idle, Took}
 use Rattle.history.specs.Live as live
 use Rattle.history.specs.Live.{data_octets, Since}
-use Rattle.history.proofs.Shining.{ShinesIn, Shines, restarted_dark, dark_glows}
-use Rattle.history.proofs.Taking.{told_glows, data_since, in_full}
-use Rattle.history.proofs.Lasting.{Flowing, Path}
+use Rattle.history.proofs.Shining.{ShinesIn, restarted_dark, dark_glows}
+use Rattle.history.proofs.Taking.{told_glows, Says}
+use Rattle.history.proofs.Blocks.{Connecting, Parametrizing, Flowing, connecting_idle, parametrizing_idle, flowing_idle, connecting_none, parametrizing_none, flowing_none, connecting_more, parametrizing_more, flowing_more}
+use Rattle.history.proofs.Lasting.{Path, Inv}
 use Rattle.outlet.specs.declared.Outlet.{Outlet}
 use Rattle.outlet.proofs.Moves as moves
 use Rattle.outlet.proofs.Moves.{Move}
@@ -33,29 +31,12 @@ pub record Own : Type 0 where
 abbrev pub count : Own → ℕ
 count x = x.plan.draft.user_octets
 
-module _ (es : List Event) (d w : ℕ) (x : Own) where
-  -- pieces of the connection block are out
-  pub record Connecting : Type 0 where
-    pub connections : List (List ℕ)
-    pub since : Since es [] [] connections
-    pub at_is : x.outlet.at ≡ length connections * d
-    pub few : x.outlet.at < 4
-
-  -- pieces of the parameter block are out
-  pub record Parametrizing : Type 0 where
-    pub parameters : List (List ℕ)
-    pub connections : List (List ℕ)
-    pub since : Since es [] parameters connections
-    pub connections_full : length connections ≡ pieces d 4
-    pub at_is : x.outlet.at ≡ length parameters * d
-    pub few : x.outlet.at < 6 + count x
-
-  abbrev pub Progress : State → Type 0
-  Progress s.Reset = Unit {0}
-  Progress s.Session = Unit {0}
-  Progress s.Connection = Connecting
-  Progress s.Parameter = Parametrizing
-  Progress s.Data = Flowing d (count x) (λ parameters. x.plan.draft.watchdog) es w
+abbrev pub Progress : List Event → (d w : ℕ) → Own → State → Type 0
+Progress es d w x s.Reset = Unit {0}
+Progress es d w x s.Session = Unit {0}
+Progress es d w x s.Connection = Connecting d x.outlet.at 4 es
+Progress es d w x s.Parameter = Parametrizing d x.outlet.at (6 + count x) (λ parameters. Unit {0}) es
+Progress es d w x s.Data = Flowing d (count x) (λ parameters. x.plan.draft.watchdog) es w
 
 -- the watchdog time is the plan's in every state
 pub record Along (es : List Event) (st : State) (d w : ℕ) (x : Own) : Type 0 where
@@ -65,24 +46,9 @@ pub record Along (es : List Event) (st : State) (d w : ℕ) (x : Own) : Type 0 w
 on : (event : Event) (es : List Event) (st : State) (d w : ℕ) (x : Own) → Idle event → Progress es d w x st → Progress (event ∷ es) d w x st
 on event es s.Reset d w x i p = tt
 on event es s.Session d w x i p = tt
-on event es s.Connection d w x i p = record { connections = p.connections; since = live.idle i p.since; at_is = p.at_is; few = p.few }
-on event es s.Parameter d w x i p = record {
-  parameters = p.parameters;
-  connections = p.connections;
-  since = live.idle i p.since;
-  connections_full = p.connections_full;
-  at_is = p.at_is;
-  few = p.few;
-}
-on event es s.Data d w x i p = record {
-  datas = p.datas;
-  parameters = p.parameters;
-  connections = p.connections;
-  since = live.idle i p.since;
-  connections_full = p.connections_full;
-  parameters_full = p.parameters_full;
-  watchdog_is = p.watchdog_is;
-}
+on event es s.Connection d w x i p = connecting_idle i p
+on event es s.Parameter d w x i p = parametrizing_idle i p
+on event es s.Data d w x i p = flowing_idle i p
 
 pub idles : (event : Event) (es : List Event) (st : State) (d w : ℕ) (x : Own) → Idle event → Along es st d w x → Along (event ∷ es) st d w x
 idles event es st d w x i p = record { watchdog_is = p.watchdog_is; progress = on event es st d w x i p.progress }
@@ -91,7 +57,14 @@ pub restarts : (event : Event) (es : List Event) (st : State) (d w : ℕ) (x : O
 restarts event es st d w x p = record { watchdog_is = p.watchdog_is; progress = tt }
 
 abbrev pub path : Path Own
-path = record { Along = Along; idles = idles; restarts = restarts }
+path = record {
+  Along = Along;
+  idles = idles;
+  restarts = restarts;
+  count = count;
+  watchdog = λ x d parameters. x.plan.draft.watchdog;
+  flows = λ es d w x f. f.progress;
+}
 
 module _ {S : Type 0} (m : Ghosts S) (law : Lawful m) (es : List Event) (e : Endpoint S) (x : Own) (octets : List ℕ) (session : ℕ) (r : FrameAnswer)
     (same : e.link.watchdog ≡ x.plan.draft.watchdog) where
@@ -107,96 +80,52 @@ module _ {S : Type 0} (m : Ghosts S) (law : Lawful m) (es : List Event) (e : End
   some : 1 ≤ e.link.watchdog
   some = omega (arith, same, x.plan.watchdog_range)
 
-  abbrev after : Outcome Outlet → Own
-  after o = record { outlet = kept x.outlet o; plan = x.plan }
-
   -- the endpoint and the outlet after an outcome stand as the events say
-  pub record Stands (o : Outcome Outlet) : Type 0 where
-    pub shines : Shines m (event ∷ es) (concluded m e o)
-    pub watchdog_is : (concluded m e o).link.watchdog ≡ x.plan.draft.watchdog
-    pub progress : Progress (event ∷ es) (width (concluded m e o)) (concluded m e o).link.watchdog (after o) (concluded m e o).state
+  abbrev Stands : Outcome Outlet → Type 0
+  Stands o = Inv m path (event ∷ es) (concluded m e o) (record { outlet = kept x.outlet o; plan = x.plan })
 
-  -- what the answer says of an outcome
-  pub record Says (k : Option Command) (o : Outcome Outlet) : Type 0 where
-    pub kind_is : command (command_octet octets) ≡ k
-    pub taken_is : r.taken ≡ is_taken o
-    pub line_is : r.line ≡ line_of e.state (command_octet octets) (raised m e o)
-
-  pub stands : (st : State) (k : Option Command) (o : Outcome Outlet) → Move e.link x.outlet x.plan octets (data_octets d octets) st k o → Says k o →
+  pub stands : (st : State) (k : Option Command) (o : Outcome Outlet) → Move e.link x.outlet x.plan octets (data_octets d octets) st k o → Says m e octets r k o →
       ShinesIn m st es e → Progress es d e.link.watchdog x st → Stands o
-  stands st k o (moves.broken f) says g q = record { shines = restarted_dark m law e; watchdog_is = same; progress = tt }
-  stands st k o (moves.reset msg ns os cm) says g q = record { shines = law.effects.shown_cleared e.sink; watchdog_is = same; progress = tt }
+  stands st k o (moves.broken f) says g q = record { shines = restarted_dark m law e; along = record { watchdog_is = same; progress = tt } }
+  stands st k o (moves.reset msg ns os cm) says g q =
+      record { shines = law.effects.shown_cleared e.sink; along = record { watchdog_is = same; progress = tt } }
   stands st k o (moves.session msg ns os cm) says g q = record {
     shines = g;
-    watchdog_is = same;
-    progress = record {
-      connections = [];
-      since = live.session octets (says.taken_is, refl, says.kind_is);
-      at_is = omega arith;
-      few = omega arith;
+    along = record {
+      watchdog_is = same;
+      progress = connecting_none (omega arith) (live.session octets (says.taken_is, refl, says.kind_is));
     };
   }
   stands st k o (moves.next_connection msg ns os cm more) says g q = record {
     shines = g;
-    watchdog_is = same;
-    progress = record {
-      connections = octets ∷ q.connections;
-      since = live.connection (says.taken_is, refl, says.kind_is) q.since;
-      at_is = ap (λ i. i + d) q.at_is ∙ omega arith;
-      few = ltb-true (x.outlet.at + d) 4 more;
+    along = record {
+      watchdog_is = same;
+      progress = connecting_more octets (says.taken_is, refl, says.kind_is) (ltb-true (x.outlet.at + d) 4 more) q;
     };
   }
-  stands st k o (moves.first_parameter msg ns os cm done) says g q = record {
-    shines = g;
-    watchdog_is = same;
-    progress = record {
-      parameters = [];
-      connections = octets ∷ q.connections;
-      since = live.connection (says.taken_is, refl, says.kind_is) q.since;
-      connections_full = in_full d 4 (length (octets ∷ q.connections)) low (omega (arith, ltb-false (x.outlet.at + d) 4 done, q.at_is)) (omega (arith, q.few, q.at_is));
-      at_is = omega arith;
-      few = omega arith;
-    };
-  }
+  stands st k o (moves.first_parameter msg ns os cm done) says g q =
+      let all : Connecting d (x.outlet.at + d) (4 + d) (event ∷ es) = connecting_more octets (says.taken_is, refl, says.kind_is) (omega (arith, q.few)) q in
+      record {
+        shines = g;
+        along = record { watchdog_is = same; progress = parametrizing_none low (ltb-false (x.outlet.at + d) 4 done) (omega arith) tt all };
+      }
   stands st k o (moves.next_parameter msg ns os cm more) says g q = record {
     shines = g;
-    watchdog_is = same;
-    progress = record {
-      parameters = octets ∷ q.parameters;
-      connections = q.connections;
-      since = live.parameter (says.taken_is, refl, says.kind_is) q.since;
-      connections_full = q.connections_full;
-      at_is = ap (λ i. i + d) q.at_is ∙ omega arith;
-      few = ltb-true (x.outlet.at + d) (6 + count x) more;
-    };
-  }
-  stands st k o (moves.first_data msg ns os cm done) says g q = record {
-    shines = dark_glows m (event ∷ es) (concluded m e o) g 0 (omega arith) some;
-    watchdog_is = same;
-    progress = record {
-      datas = [];
-      parameters = octets ∷ q.parameters;
-      connections = q.connections;
-      since = live.parameter (says.taken_is, refl, says.kind_is) q.since;
-      connections_full = q.connections_full;
-      parameters_full =
-          in_full d (6 + count x) (length (octets ∷ q.parameters)) low (omega (arith, ltb-false (x.outlet.at + d) (6 + count x) done, q.at_is))
-          (omega (arith, q.few, q.at_is));
+    along = record {
       watchdog_is = same;
+      progress = parametrizing_more octets (says.taken_is, refl, says.kind_is) (ltb-true (x.outlet.at + d) (6 + count x) more) q tt;
     };
   }
+  stands st k o (moves.first_data msg ns os cm done) says g q =
+      let all : Parametrizing d (x.outlet.at + d) (6 + count x + d) (λ parameters. Unit {0}) (event ∷ es) =
+      parametrizing_more octets (says.taken_is, refl, says.kind_is) (omega (arith, q.few)) q tt in
+      record {
+        shines = dark_glows m (event ∷ es) (concluded m e o) g 0 (omega arith) some;
+        along = record { watchdog_is = same; progress = flowing_none low (ltb-false (x.outlet.at + d) (6 + count x) done) all same };
+      }
   stands st k o (moves.next_data {k = kind} msg ns os cm tells) says g q =
       let took : Took kind octets event = (says.taken_is, refl, says.kind_is) in
       record {
         shines = told_glows m law es event (concluded m e o).link e.sink refl some octets e.state (command_octet octets) tells took says.line_is;
-        watchdog_is = same;
-        progress = record {
-          datas = octets ∷ q.datas;
-          parameters = q.parameters;
-          connections = q.connections;
-          since = data_since tells took q.since;
-          connections_full = q.connections_full;
-          parameters_full = q.parameters_full;
-          watchdog_is = same;
-        };
+        along = record { watchdog_is = same; progress = flowing_more octets tells took q };
       }

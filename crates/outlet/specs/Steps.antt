@@ -10,7 +10,7 @@ use Rattle.chain.specs.Numbers.{fresh, is_right}
 use Rattle.plan.specs.declared.sealed_plan.SealedPlan.{SealedPlan}
 use Rattle.shared_end.specs.Link.{numbered, freshened, after_writing, after_reading}
 use Rattle.shared_end.specs.Data.{frame_command, carried, after_data}
-use Rattle.shared_end.specs.Outcomes.{Outcome, taken, fault}
+use Rattle.shared_end.specs.Outcomes.{Outcome, taken, unless}
 use Rattle.shared_end.specs.declared.link.Link.{Link}
 use Rattle.shared_end.specs.declared.step.Act.{Act}
 use Rattle.shared_end.specs.declared.step.Act.TheVariants as a
@@ -49,11 +49,6 @@ module _ (l : Link) (o : Outlet) (p : SealedPlan) where
   abbrev pub next_out : Block → Outcome Outlet
   next_out b =
       cond (nat_lt (o.at + l.size.octets) (count_of p b)) (piece_out b (o.at + l.size.octets)) (behind b)
-
--- a frame with a fault is not taken
-abbrev pub unless : Option Fault → Outcome Outlet → Outcome Outlet
-unless None out = out
-unless (Some f) out = fault f
 
 -- fresh, and a Session frame with the session number
 abbrev pub reset_taken : Link → Outlet → (session : ℕ) → Outcome Outlet

@@ -5,6 +5,7 @@ ghost use Rattle.outlet.specs.Blocks.{connection_block, parameter_block, piece, 
 use crate::user::UserOctets;
 use faults::state::State;
 use frame::command::Command;
+use frame::outgoing::with_zeros;
 use length::DataLength;
 use plan::SealedPlan;
 
@@ -58,16 +59,13 @@ impl Block {
 }
 
 // The connection block: the connection ID and the slave address.
+#[tactic(auto, unfolding(crate::specs::Blocks::connection_block))]
 fn connection_block(id: u16, address: u16) -> [u8; 64]
     ensures { result ≡ connection_block id address }
 {
-    let [id_low, id_high] = id.to_le_bytes();
-    let [low, high] = address.to_le_bytes();
     let mut block = [0; 64];
-    block[0] = id_low;
-    block[1] = id_high;
-    block[2] = low;
-    block[3] = high;
+    block[0..2].copy_from_slice(&id.to_le_bytes());
+    block[2..4].copy_from_slice(&address.to_le_bytes());
     block
 }
 
@@ -79,23 +77,18 @@ fn parameter_block(watchdog: u16, count: u16, user: &[u8; 16]) -> [u8; 64]
     let [low, high] = watchdog.to_le_bytes();
     let [count_low, count_high] = count.to_le_bytes();
     let mut block = [0; 64];
-    block[0] = 2;
-    block[2] = low;
-    block[3] = high;
-    block[4] = count_low;
-    block[5] = count_high;
+    block[0..6].copy_from_slice(&[2, 0, low, high, count_low, count_high]);
     let count = count as usize;
     block[6..6 + count].copy_from_slice(&user[0..count]);
     block
 }
 
 // The piece of a block that begins there, with zeros behind it. None begins past 32.
+#[tactic(auto, unfolding(crate::specs::Blocks::piece))]
 pub fn piece(size: DataLength, at: u8, block: &[u8; 64]) -> [u8; 32]
     ensures { result ≡ piece size.octets at block.now }
 {
     let d = size.octets();
     let from = at.min(32) as usize;
-    let mut octets = [0; 32];
-    octets[0..d].copy_from_slice(&block[from..from + d]);
-    octets
+    with_zeros(&block[from..from + d])
 }

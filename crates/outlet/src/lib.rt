@@ -1,4 +1,6 @@
 // What a master keeps of the blocks that it sends, apart from its plan, and the steps that it makes of frames.
+// Link and plan are lent to each step: both ends share what the link is part of, and no step can change a plan that is lent.
+// Held here the plan is no plainer: the contract of each step would have to say that it stays.
 #![tactic(auto)]
 
 use crate::user::UserOctets;

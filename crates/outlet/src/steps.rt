@@ -1,6 +1,5 @@
 // The steps of a master, one function for each.
 ghost use Rattle.std.specs.Prelude.{◌≡◌};
-ghost use Rattle.std.specs.Str.{bytes_eq};
 ghost use Rattle.frame.specs.Reading.{padded};
 ghost use Rattle.shared_end.specs.Outcomes.{Comes};
 ghost use Rattle.outlet.specs.Steps.{reset_taken, session_taken, piece_taken, data_taken, answer_fault, Checked};
@@ -38,9 +37,7 @@ impl Outlet {
     ) -> Result<Step, Fault>
         ensures { Comes (session_taken link.old self.old plan.now octets.now) link.old self.old result link.new self.new }
     {
-        if !link.take(octets) {
-            return Err(Fault::InvalidCrc);
-        }
+        link.take(octets)?;
         Ok(self.send(link, plan, Block::Connection, 0))
     }
 
@@ -69,12 +66,8 @@ impl Outlet {
     ) -> Result<Step, Fault>
         ensures { Comes (data_taken link.old self.now plan.now octets.now act) link.old self.now result link.new self.now }
     {
-        if link.id_in(octets) != plan.id() {
-            return Err(Fault::InvalidConnectionId);
-        }
-        if !link.take(octets) {
-            return Err(Fault::InvalidCrc);
-        }
+        link.check_id(octets, plan.id())?;
+        link.take(octets)?;
         Ok(self.send_data(link, plan, act))
     }
 
@@ -89,21 +82,10 @@ impl Outlet {
     ) -> Result<(), Fault>
         ensures { Checked link.old self.now plan.now octets.now (answer_fault link.old self.now plan.now octets.now block answer.now) result link.new }
     {
-        if link.id_in(octets) != plan.id() {
-            return Err(Fault::InvalidConnectionId);
-        }
-        if !same(answer, &self.piece_out(link, plan, block)) {
+        link.check_id(octets, plan.id())?;
+        if *answer != self.piece_out(link, plan, block) {
             return Err(Fault::InvalidData);
         }
-        if !link.take(octets) {
-            return Err(Fault::InvalidCrc);
-        }
-        Ok(())
+        link.take(octets)
     }
-}
-
-fn same(a: &[u8; 32], b: &[u8; 32]) -> bool
-    ensures { result ≡ bytes_eq a.now b.now }
-{
-    a == b
 }

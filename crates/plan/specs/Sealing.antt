@@ -1,5 +1,5 @@
 -- When a draft is sealed, and what is answered. Assumes nothing.
-use Rattle.std.specs.Prelude.{◌≡◌, cond, Some, None, Ok, Err, Option, Result, ◌==◌, nat_lt}
+use Rattle.std.specs.Prelude.{◌≡◌, if◌then◌else◌, Some, None, Ok, Err, Option, Result, ◌==◌, nat_lt}
 use Rattle.codes.specs.declared.refusal.Refusal.{Refusal}
 use Rattle.codes.specs.declared.refusal.Refusal.TheVariants.{ZeroConnectionId, ZeroWatchdog, TooManyUserOctets}
 use Rattle.plan.specs.declared.draft.Draft.{Draft}
@@ -9,8 +9,10 @@ use Rattle.plan.specs.declared.sealed_plan.Unsealed.{Unsealed}
 -- the first refusal that a draft meets
 abbrev pub refused : Draft → Option Refusal
 refused d =
-    cond (d.id == 0) (Some ZeroConnectionId)
-    (cond (d.watchdog == 0) (Some ZeroWatchdog) (cond (nat_lt 16 d.user_octets) (Some TooManyUserOctets) None))
+    if d.id == 0 then Some ZeroConnectionId
+    else (if d.watchdog == 0 then Some ZeroWatchdog
+    else (if nat_lt 16 d.user_octets then Some TooManyUserOctets
+    else None))
 
 -- a sealed plan holds the draft's values; a refused draft comes back as it was
 abbrev pub Sealed : Draft → Result SealedPlan Unsealed → Type 0

@@ -3,7 +3,7 @@ use length::DataLength;
 pub mod printing;
 
 // A plan in the making: every value is set freely. It is moved and never copied.
-#[derive(Drop)]
+#[derive(Debug, Drop)]
 pub struct Draft {
     pub id: u16,
     pub address: u16,

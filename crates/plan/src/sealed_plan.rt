@@ -17,7 +17,7 @@ pub struct SealedPlan {
 }
 
 // A draft that was not sealed, as it was handed in, and why.
-#[derive(Drop)]
+#[derive(Debug, Drop)]
 pub struct Unsealed {
     pub draft: Draft,
     pub refusal: Refusal,

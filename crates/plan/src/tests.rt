@@ -22,9 +22,7 @@ fn refusals_in_order(rt: HostRuntime) -> Result<(), Fail> {
     draft.watchdog = 1;
     let mut draft = refused(&rt, draft, Refusal::TooManyUserOctets)?;
     draft.user_octets = 16;
-    let Ok(plan) = draft.seal() else {
-        return Err(Fail::new("not sealed"));
-    };
+    let plan = draft.seal()?;
     assert_eq!(rt; plan.address(), 85);
     assert_eq!(rt; plan.reopen().user_octets, 16);
     Ok(())

@@ -17,13 +17,10 @@ impl Verdict {
     pub fn device(number: u8) -> Verdict
         ensures { result ≡ device number }
     {
-        match DeviceCode::new(number) {
-            Some(code) => Verdict::Device(code),
-            None => Verdict::Invalid,
-        }
+        DeviceCode::new(number).map_or(Verdict::Invalid, Verdict::Device)
     }
 
-    // The fault that the verdict is, or none where the octets are accepted.
+    // The fault that the verdict is, or none where the octets are accepted: an answer to a question, which fails nothing.
     pub fn fault(self) -> Option<Fault>
         ensures { result ≡ fault self }
     {
@@ -34,15 +31,11 @@ impl Verdict {
         }
     }
 
-    // The number of the verdict: 0, 11, or 128 to 255.
+    // The number of that fault, or 0: it is 0, 11, or 128 to 255.
     pub fn number(self) -> u8
         ensures value { result ≡ number self }
         ensures listed { Listed result }
     {
-        match self {
-            Verdict::Accepted => 0,
-            Verdict::Invalid => 11,
-            Verdict::Device(code) => code.number(),
-        }
+        self.fault().map_or(0, Fault::number)
     }
 }

@@ -1,12 +1,8 @@
--- The bank profile's numbers and its verdict. Assumes nothing.
+-- The bank profile's verdict. Assumes nothing.
 use Rattle.std.specs.Prelude.{cond, List, ℕ, ◌==◌, length}
-use Rattle.profile.specs.Numbers.{Numbers}
 use Rattle.profile.specs.declared.verdict.Verdict.{Verdict}
 use Rattle.profile.specs.declared.verdict.Verdict.TheVariants.{Accepted, Invalid}
 use Rattle.profiles.specs.Numbers.{word_at, between}
-
-abbrev pub bank_numbers : Numbers
-bank_numbers = record { octets = 2; lowest = 5; highest = 10000 }
 
 -- there are two octets, and their number is from 10 to 3,000
 abbrev pub bank_verdict : List ℕ → Verdict

@@ -1,13 +1,9 @@
--- The drive profile's numbers and its verdict. Assumes nothing.
+-- The drive profile's verdict. Assumes nothing.
 use Rattle.std.specs.Prelude.{cond, List, ℕ, ◌==◌, length}
 use Rattle.profile.specs.Verdicts.{device}
-use Rattle.profile.specs.Numbers.{Numbers}
 use Rattle.profile.specs.declared.verdict.Verdict.{Verdict}
 use Rattle.profile.specs.declared.verdict.Verdict.TheVariants.{Accepted, Invalid}
 use Rattle.profiles.specs.Numbers.{word_at, between}
-
-abbrev pub drive_numbers : Numbers
-drive_numbers = record { octets = 4; lowest = 2; highest = 1000 }
 
 -- the first number is from 1 to 6,000, and then the second from 1 to 10,000
 abbrev pub two_numbers : ℕ → ℕ → Verdict

@@ -3,7 +3,6 @@
 
 mod bank_profile;
 mod drive_profile;
-mod numbers;
 
 pub use bank_profile::BankProfile;
 pub use drive_profile::DriveProfile;

@@ -1,2 +1,3 @@
 pub mod Filling
 pub mod Framing
+pub mod Unless

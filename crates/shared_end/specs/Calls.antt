@@ -1,7 +1,7 @@
 -- What calls of an end answer, and what they leave in the reply buffer and the journal. Assumes nothing.
-use Rattle.std.specs.Prelude.{◌≡◌, ℕ, ◌≤◌, Bool, cond, List, ◌++◌, length, drop, is_ok, Some, None, Ok, Err, Option, Result, nat_lt}
+use Rattle.std.specs.Prelude.{◌≡◌, ℕ, ◌≤◌, Bool, cond, List, ◌++◌, length, drop, is_ok, Some, None, Ok, Err, Option, Result}
 use Rattle.codes.specs.declared.refusal.Refusal.{Refusal}
-use Rattle.codes.specs.declared.refusal.Refusal.TheVariants.{WrongFrameLength, ShortReplyBuffer}
+use Rattle.codes.specs.declared.refusal.Refusal.TheVariants.{WrongFrameLength}
 use Rattle.faults.specs.Faults.{number}
 use Rattle.faults.specs.declared.fault.Fault.{Fault}
 use Rattle.faults.specs.declared.fault.Fault.TheVariants.{WatchdogExpired}
@@ -20,15 +20,12 @@ use Rattle.shared_end.specs.declared.answer.FrameAnswer.{FrameAnswer}
 use Rattle.shared_end.specs.declared.endpoint.Endpoint.{Endpoint}
 use Rattle.shared_end.specs.declared.step.Step.{Step}
 use Rattle.shared_end.specs.declared.data_command.DataCommand.{DataCommand}
+use Rattle.shared_end.specs.Checks.{short}
 use Rattle.shared_end.specs.Link.{Setting, expires}
 use Rattle.shared_end.specs.Outcomes.{Message, reset_message, Outcome, is_taken, sends, kept}
 use Rattle.shared_end.specs.Endpoints.{width, with_link, with_sink, carried_out, given, concluded, raised, restarted, ticked}
 
--- a reply buffer that is shorter than a frame is refused
-abbrev pub short : (d : ℕ) → (reply : List ℕ) → Option Refusal
-short d reply = cond (nat_lt (length reply) (frame_octets d)) (Some ShortReplyBuffer) None
-
--- before it, a frame of another length than the connection's
+-- before a reply buffer that is shorter than a frame, a frame of another length than the connection's
 abbrev pub unfit : (d : ℕ) → (octets reply : List ℕ) → Option Refusal
 unfit d octets reply = cond (whole d octets) (short d reply) (Some WrongFrameLength)
 

@@ -1,3 +1,4 @@
+pub mod Checks
 pub mod Link
 pub mod Data
 pub mod Outcomes

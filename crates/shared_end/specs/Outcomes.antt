@@ -1,5 +1,5 @@
 -- What a frame comes to at an end that keeps an X of its own beside its link. Assumes nothing.
-use Rattle.std.specs.Prelude.{◌≡◌, ℕ, Bool, true, false, List, Ok, Err, Result}
+use Rattle.std.specs.Prelude.{◌≡◌, ℕ, Bool, true, false, List, Some, None, Ok, Err, Option, Result}
 use Rattle.faults.specs.Faults.{number}
 use Rattle.faults.specs.declared.fault.Fault.{Fault}
 use Rattle.faults.specs.declared.state.State.{State}
@@ -60,6 +60,11 @@ module _ {X : Type 0} where
   abbrev pub sends : Outcome X → Message
   sends (taken s act m l x) = m
   sends (fault f) = reset_message (number f)
+
+  -- a frame with a fault is not taken
+  abbrev pub unless : Option Fault → Outcome X → Outcome X
+  unless None o = o
+  unless (Some f) o = fault f
 
   -- the X afterwards
   abbrev pub kept : X → Outcome X → X

@@ -9,7 +9,7 @@ pub struct Answer {
     pub line: Option<Line>,
 }
 
-// A frame: also whether it was taken.
+// A frame: also whether it was taken. A flag and no `Result`: a taken frame whose release was refused has a line too.
 #[derive(Clone, Copy)]
 pub struct FrameAnswer {
     pub state: State,

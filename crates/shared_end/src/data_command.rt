@@ -11,12 +11,12 @@ pub enum DataCommand {
     FailSafeData,
 }
 
-impl DataCommand {
-    // The kind of frame that carries it.
-    pub fn command(self) -> Command
-        ensures { result ≡ frame_command self }
-    {
-        match self {
+// The kind of frame that carries it.
+impl From<DataCommand> for Command {
+    ghost from_gives = { λ c k. k ≡ frame_command c };
+
+    fn from(command: DataCommand) -> Command {
+        match command {
             DataCommand::ProcessData => Command::ProcessData,
             DataCommand::FailSafeData => Command::FailSafeData,
         }

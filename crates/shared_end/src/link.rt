@@ -1,18 +1,21 @@
 // What an end keeps of its connection: its numbers, what it sends in data frames, and its watchdog.
-ghost use Rattle.std.specs.Prelude.{◌≡◌, ◌-◌, ◌≤◌, ◌++◌, length, replicate};
+ghost use Rattle.std.specs.Prelude.{◌≡◌};
+ghost use Rattle.std.specs.Result.{result_err};
 ghost use Rattle.frame.specs.Commands.{octet};
 ghost use Rattle.frame.specs.Reading.{id as id-in-frame};
 ghost use Rattle.frame.specs.declared.command.Command.TheVariants.{Reset};
-ghost use Rattle.chain.specs.Numbers.{fresh, is_right};
+ghost use Rattle.chain.specs.Numbers.{fresh};
 ghost use Rattle.chain.specs.Written.{Written};
+ghost use Rattle.shared_end.specs.Checks.{short, crc_fault, id_fault};
 ghost use Rattle.shared_end.specs.Data.{carried, DataWritten, after_data};
 ghost use Rattle.shared_end.specs.Link.{coded, numbered, new_link, freshened, expires, counted, after_writing, after_reading, Setting};
 
 use crate::data_command::DataCommand;
 use chain::numbers::Numbers;
 use codes::refusal::Refusal;
+use faults::fault::Fault;
 use frame::command::Command;
-use frame::outgoing::Outgoing;
+use frame::outgoing::{Outgoing, with_zeros};
 use frame::received::Received;
 use length::DataLength;
 
@@ -20,7 +23,7 @@ use length::DataLength;
 pub struct Link {
     pub size: DataLength,
     pub numbers: Numbers,
-    // the octets set, with zeros behind them
+    // the octets set, with zeros behind them: an array, since firmware has no heap
     pub outputs: [u8; 32],
     pub command: DataCommand,
     // the watchdog time, and the ticks that are left of it
@@ -79,7 +82,7 @@ impl Link {
         ensures link { self.new ≡ after_data self.old id }
     {
         let octets = self.carried();
-        self.write(self.command.command(), id, &octets)
+        self.write(Command::from(self.command), id, &octets)
     }
 
     // What the next data frame carries.
@@ -92,13 +95,38 @@ impl Link {
         }
     }
 
-    // Takes a frame that is right, and answers whether it was.
-    pub fn take(&mut self, octets: &[u8]) -> bool
-        ensures right { result ≡ is_right self.old.numbers self.old.size.octets octets.now }
+    // Takes a frame that is right.
+    pub fn take(&mut self, octets: &[u8]) -> Result<(), Fault>
+        ensures answer { result_err result ≡ crc_fault self.old.numbers self.old.size.octets octets.now }
         ensures link { self.new ≡ after_reading self.old octets.now }
     {
         let size = self.size;
-        self.numbers.take(Received { octets, size }).is_some()
+        self.numbers
+            .take(Received { octets, size })
+            .map(|_number| ())
+            .ok_or(Fault::InvalidCrc)
+    }
+
+    // Whether a frame has that connection ID.
+    pub fn check_id(&self, octets: &[u8], id: u16) -> Result<(), Fault>
+        ensures { result_err result ≡ id_fault self.now.size.octets octets.now id }
+    {
+        if self.id_in(octets) == id {
+            Ok(())
+        } else {
+            Err(Fault::InvalidConnectionId)
+        }
+    }
+
+    // Whether a reply buffer has room for a frame.
+    pub fn check_room(&self, reply: &[u8]) -> Result<(), Refusal>
+        ensures { result_err result ≡ short self.now.size.octets reply.now }
+    {
+        if reply.len() < self.size.frame_octets() {
+            Err(Refusal::ShortReplyBuffer)
+        } else {
+            Ok(())
+        }
     }
 
     // The connection ID that stands in a frame.
@@ -117,39 +145,24 @@ impl Link {
         if octets.len() != self.size.octets() {
             return Err(Refusal::WrongDataCount);
         }
-        self.outputs = padded(octets);
+        self.outputs = with_zeros(octets);
         self.command = command;
         Ok(())
     }
 }
 
-// A Reset frame with a code. It is written from fresh numbers, so every one with the same code is the same.
+// A Reset frame with a code. It is written from fresh numbers, so every one with the same code is the same. The code is the octet
+// itself, no `Option` of a fault: 0 is a code too, that of a reset call.
 pub fn reset_frame(size: DataLength, code: u8) -> Outgoing
     ensures { Written fresh size 0 (octet Reset) (coded code) result }
 {
-    let mut octets = [0; 32];
-    octets[0] = code;
     let mut numbers = Numbers::fresh();
-    numbers.write(size, Command::Reset, 0, &octets)
+    numbers.write(size, Command::Reset, 0, &with_zeros(&[code]))
 }
 
 // The octets of a Session frame.
 pub fn numbered(session: u16) -> [u8; 32]
     ensures { result ≡ numbered session }
 {
-    let [low, high] = session.to_le_bytes();
-    let mut octets = [0; 32];
-    octets[0] = low;
-    octets[1] = high;
-    octets
-}
-
-// Up to 32 octets, with zeros behind them.
-fn padded(octets: &[u8]) -> [u8; 32]
-    requires { length octets.now ≤ 32 }
-    ensures { result ≡ octets.now ++ replicate (32 - length octets.now) 0 }
-{
-    let mut room = [0; 32];
-    room[0..octets.len()].copy_from_slice(octets);
-    room
+    with_zeros(&session.to_le_bytes())
 }

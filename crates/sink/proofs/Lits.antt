@@ -1,7 +1,7 @@
 -- Lemmas on the bits that a sink shows, for the proof of its law and for code over any sink.
-use Rattle.std.proofs.Common.{◌≡◌, ℕ, zero, suc, ◌/◌, ◌%◌, ◌^◌, Bool, true, false, cond, List, ◌∷◌, get_or, replicate, refl, ap, ◌∙◌, subst, arith}
-use native.Mathlib.Nat.{zero-div}
-use lib.Bits.{bit_and, and_comm, and_le_r, and_shr, and_mod}
+use Rattle.std.proofs.Common.{◌≡◌, ℕ, zero, suc, Bool, true, false, cond, List, ◌∷◌, get_or, replicate, refl, subst, arith}
+use Rattle.std.proofs.lemmas.Nat.Bits.{bit_at-zero, bit_at_and, bit_at-lt}
+use Rattle.std.specs.Prelude.{bit_and}
 use Rattle.sink.specs.Octets.{zeros, Bit, Lit, Within}
 use Rattle.sink.specs.Lawful.{Lawful}
 use Rattle.sink.specs.declared.Sink.{Ghosts}
@@ -17,21 +17,17 @@ same_bit e k = subst (λ (x : ℕ). Bit x k) e
 
 -- no bit of zero is set
 pub no_bit : (k : ℕ) → Bit 0 k → ⊥
-no_bit k h = omega (arith, ap (λ (x : ℕ). x % 2) (zero-div (2 ^ k)), h)
+no_bit k h = omega (arith, bit_at-zero k)
 
 pub none_lit : (i k : ℕ) → Lit zeros i k → ⊥
 none_lit i k h = no_bit k (same_bit (get_or_zeros 32 i) k h)
 
 -- a bit of the conjunction is a bit of each part
 pub lit_and_right : (a b k : ℕ) → Bit (bit_and a b) k → Bit b k
-lit_and_right a b k h =
-    let x = a / 2 ^ k in
-    let y = b / 2 ^ k in
-    let e = ap (λ (n : ℕ). n % 2) (and_shr a b k) ∙ and_mod x y 1 in
-    omega (arith, e, h, and_le_r (x % 2) (y % 2))
+lit_and_right a b k h = omega (arith, bit_at_and a b k, bit_at-lt b k)
 
 pub lit_and_left : (a b k : ℕ) → Bit (bit_and a b) k → Bit a k
-lit_and_left a b k h = lit_and_right b a k (same_bit (and_comm a b) k h)
+lit_and_left a b k h = omega (arith, bit_at_and a b k, bit_at-lt a k)
 
 -- octet 0 alone is shown, and its bits are set in the released octet 0
 pub first_within : (x : ℕ) (o : List ℕ) → ((k : ℕ) → Bit x k → Lit o 0 k) → Within (x ∷ replicate 31 0) o

@@ -1,3 +1,4 @@
+pub mod Stages
 pub mod Banks
 pub mod Drives
 pub mod Switching

@@ -1,8 +1,12 @@
-// The named output stages: the bank and the drive.
+// The output stage, generic over what stands at its outputs, and the two named ones: the bank and the drive.
 #![tactic(auto)]
 
 mod bank;
 mod drive;
+mod outputs;
+mod stage;
 
-pub use bank::Bank;
-pub use drive::Drive;
+pub use bank::{Bank, Whole};
+pub use drive::{Drive, Switches};
+pub use outputs::Outputs;
+pub use stage::Stage;

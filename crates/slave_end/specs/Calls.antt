@@ -54,7 +54,7 @@ module _ {S P : Type 0} where
     abbrev pub told : Slave S P → Bool → Slave S P
     told = calls.told holding m
 
-    module _ {N L U : Type 0} (p : profile.Ghosts P N L U) where
+    module _ (p : profile.Ghosts P) where
       -- a frame that is accepted comes to its outcome, and the profile is kept; at a refusal all is as it was
       abbrev pub Frames : Slave S P → List ℕ → (session : ℕ) → List ℕ → Journal Line → Result FrameAnswer Refusal → Slave S P → List ℕ → Journal Line → Type 0
       Frames e octets n reply j (Ok a) e' reply' j' =

@@ -18,7 +18,7 @@ use Rattle.slave_end.specs.declared.slave.Slave.{Slave}
 use Rattle.inlet.specs.Storing.{watchdog_in}
 use Rattle.slave_end.specs.Calls.{runs, holding, new_slave, Frames}
 
-module _ {S P N L U : Type 0} (m : sink.Ghosts S) (p : profile.Ghosts P N L U) where
+module _ {S P : Type 0} (m : sink.Ghosts S) (p : profile.Ghosts P) where
   -- a slave is made from a length, an address, a sink and a profile
   pub record Making (e : Slave S P) : Type 0 where
     pub size : DataLength
@@ -37,7 +37,7 @@ module _ {S P N L U : Type 0} (m : sink.Ghosts S) (p : profile.Ghosts P N L U) w
   abbrev pub AlwaysLive : Slave S P → Type 0
   AlwaysLive e =
       (es : List Event) (j : Journal Line) → History es e j → (i k : ℕ) → Lit (m.shown e.endpoint.sink) i k →
-      Live (width e.endpoint) p.numbers.octets (watchdog_in (width e.endpoint)) es i k
+      Live (width e.endpoint) p.USER_OCTETS (watchdog_in (width e.endpoint)) es i k
 
   -- in every history, the journal tells every fault
   abbrev pub AlwaysTold : Slave S P → Journal Line → Type 0
@@ -49,7 +49,7 @@ module _ {S P N L U : Type 0} (m : sink.Ghosts S) (p : profile.Ghosts P N L U) w
     pub events : List Event
     pub asked : Leads Did (new_slave m size address s r) j calls events e j'
     pub live : (i k : ℕ) → Lit (m.shown e.endpoint.sink) i k →
-        Live (width e.endpoint) p.numbers.octets (watchdog_in (width e.endpoint)) events i k
+        Live (width e.endpoint) p.USER_OCTETS (watchdog_in (width e.endpoint)) events i k
     pub told : Told events j'
 
   abbrev pub Runs : DataLength → (address : ℕ) → S → P → List Call → Journal Line → Slave S P → Journal Line → Type 0

@@ -17,7 +17,7 @@ module _ {S P : Type 0} where
   with_inlet e l x = record { endpoint = with_link e.endpoint l; inlet = x; profile = e.profile }
 
   -- what the octets come to
-  module _ {N L U : Type 0} (m : Ghosts P N L U) where
+  module _ (m : Ghosts P) where
     abbrev pub asked : Slave S P → List ℕ → (session : ℕ) → Outcome Inlet
     asked e octets n =
         outcome m e.endpoint.link e.inlet octets (padded (body (width e.endpoint) octets)) e.endpoint.state n

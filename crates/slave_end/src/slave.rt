@@ -15,7 +15,8 @@ pub struct Slave<S, P> {
     profile: P,
 }
 
-// What a slave leaves: its sink, cleared, and its profile.
+// What a slave leaves: its sink, cleared, and its profile. A struct for both ends is no plainer: its second field would have no
+// name of its own.
 #[derive(Drop)]
 pub struct Dismissed<S, P> {
     pub sink: S,

@@ -1,162 +1,105 @@
 // Two ends in step write and read a few frames, from the Session exchange on.
-use anyhow::anyhow;
 use chain::numbers::Numbers;
 use frame::command::Command;
-use frame::received::{Frame, Received, data_of};
+use frame::outgoing::{put, with_zeros};
+use frame::received::{Received, data_of};
 use hexadecimal::Hex;
 use length::DataLength;
 
 const ID: u16 = 4660;
 
+// The messages of the two ends in turn, the master's first: the kind, the connection ID and the data octets.
+const MESSAGES: [(Command, u16, [u8; 4]); 5] = [
+    (Command::Session, 0, [0xb2, 0xa1, 0, 0]),
+    (Command::Session, 0, [0xd4, 0xc3, 0, 0]),
+    (Command::Connection, ID, [0x34, 0x12, 0x55, 0]),
+    (Command::Connection, ID, [0x34, 0x12, 0x55, 0]),
+    (Command::ProcessData, ID, [1, 2, 3, 4]),
+];
+
 pub fn exchange_frames(rt: &HostRuntime) -> anyhow::Result<()> {
-    let Ok(size) = DataLength::new(4) else {
-        return Err(anyhow!("4 data octets were refused"));
-    };
     println!(rt; "frames of 4 data octets, master and slave in turn")?;
-    let mut master = Numbers::fresh();
-    let mut slave = Numbers::fresh();
-    send(
-        rt,
-        size,
-        &mut master,
-        &mut slave,
-        Command::Session,
-        0,
-        [0xb2, 0xa1, 0, 0],
-    )?;
-    send(
-        rt,
-        size,
-        &mut slave,
-        &mut master,
-        Command::Session,
-        0,
-        [0xd4, 0xc3, 0, 0],
-    )?;
-    send(
-        rt,
-        size,
-        &mut master,
-        &mut slave,
-        Command::Connection,
-        ID,
-        [0x34, 0x12, 0x55, 0],
-    )?;
-    send(
-        rt,
-        size,
-        &mut slave,
-        &mut master,
-        Command::Connection,
-        ID,
-        [0x34, 0x12, 0x55, 0],
-    )?;
-    send(
-        rt,
-        size,
-        &mut master,
-        &mut slave,
-        Command::ProcessData,
-        ID,
-        [1, 2, 3, 4],
-    )?;
-    damage(rt, size, &mut slave, &mut master)
-}
-
-// One end writes a frame, and the other reads it.
-fn send(
-    rt: &HostRuntime,
-    size: DataLength,
-    writer: &mut Numbers,
-    reader: &mut Numbers,
-    command: Command,
-    id: u16,
-    octets: [u8; 4],
-) -> anyhow::Result<()> {
-    let written = writer.write(size, command, id, &padded(octets));
-    let hex = Hex(written.octets());
-    println!(rt; "  write {hex}")?;
-    read(
-        rt,
-        reader,
-        Received {
-            octets: written.octets(),
-            size,
-        },
-    )
-}
-
-// A frame whose last CRC octet was changed on the way is not taken.
-fn damage(
-    rt: &HostRuntime,
-    size: DataLength,
-    writer: &mut Numbers,
-    reader: &mut Numbers,
-) -> anyhow::Result<()> {
-    let written = writer.write(size, Command::FailSafeData, ID, &[0; 32]);
-    let mut octets = [0u8; 11];
-    for (place, octet) in octets.iter_mut().zip(written.octets()) {
-        *place = *octet;
-    }
-    octets[8] ^= 1;
-    let hex = Hex(&octets);
-    println!(rt; "  write {hex} with one bit changed")?;
-    read(
-        rt,
-        reader,
-        Received {
-            octets: &octets,
-            size,
-        },
-    )?;
-    read(
-        rt,
-        reader,
-        Received {
-            octets: &octets[0..10],
-            size,
-        },
-    )
-}
-
-fn read(rt: &HostRuntime, reader: &mut Numbers, received: Received<'_>) -> anyhow::Result<()> {
-    let frame = match received.frame() {
-        Ok(frame) => frame,
-        Err(refusal) => {
-            let number = refusal.number();
-            println!(rt; "  read  refused with {number}")?;
-            return Ok(());
-        }
+    let mut ends = Ends {
+        size: DataLength::new(4)?,
+        writer: Numbers::fresh(),
+        reader: Numbers::fresh(),
     };
-    let (name, body) = named(frame);
-    let id = received.id();
-    let octets = data_of(body);
-    let hex = Hex(&octets[0..4]);
-    match reader.take(received) {
-        Some(number) => println!(rt;
-            "  read  {name}, data {hex}, connection ID {id}, taken as number {number}"
-        )?,
-        None => println!(rt; "  read  {name}, data {hex}, connection ID {id}, wrong CRC")?,
+    for (command, id, octets) in MESSAGES {
+        ends.send(rt, command, id, octets)?;
+        ends = ends.turned();
     }
-    Ok(())
+    ends.damage(rt)
 }
 
-fn named(frame: Frame<'_>) -> (&'static str, &[u8]) {
-    match frame {
-        Frame::Reset(body) => ("Reset", body),
-        Frame::Session(body) => ("Session", body),
-        Frame::Connection(body) => ("Connection", body),
-        Frame::Parameter(body) => ("Parameter", body),
-        Frame::ProcessData(body) => ("ProcessData", body),
-        Frame::FailSafeData(body) => ("FailSafeData", body),
-        Frame::Unknown => ("unknown", &[]),
-    }
+// Two ends in step, of which one writes and the other reads.
+#[derive(Drop)]
+struct Ends {
+    size: DataLength,
+    writer: Numbers,
+    reader: Numbers,
 }
 
-fn padded(octets: [u8; 4]) -> [u8; 32] {
-    let mut room = [0u8; 32];
-    for (place, octet) in room.iter_mut().zip(octets) {
-        *place = octet;
+impl Ends {
+    // The other end writes.
+    fn turned(self) -> Ends {
+        Ends {
+            size: self.size,
+            writer: self.reader,
+            reader: self.writer,
+        }
     }
-    room
+
+    // One end writes a frame, and the other reads it.
+    fn send(
+        &mut self,
+        rt: &HostRuntime,
+        command: Command,
+        id: u16,
+        octets: [u8; 4],
+    ) -> anyhow::Result<()> {
+        let written = self
+            .writer
+            .write(self.size, command, id, &with_zeros(&octets));
+        let hex = Hex(written.octets());
+        println!(rt; "  write {hex}")?;
+        self.read(rt, written.octets())
+    }
+
+    // A frame whose last CRC octet was changed on the way is not taken.
+    fn damage(&mut self, rt: &HostRuntime) -> anyhow::Result<()> {
+        let written = self
+            .writer
+            .write(self.size, Command::FailSafeData, ID, &[0; 32]);
+        let mut octets = [0u8; 11];
+        put(written.octets(), &mut octets)?;
+        octets[8] ^= 1;
+        let hex = Hex(&octets);
+        println!(rt; "  write {hex} with one bit changed")?;
+        self.read(rt, &octets)?;
+        self.read(rt, &octets[..10])
+    }
+
+    fn read(&mut self, rt: &HostRuntime, octets: &[u8]) -> anyhow::Result<()> {
+        let received = Received {
+            octets,
+            size: self.size,
+        };
+        let frame = match received.frame() {
+            Ok(frame) => frame,
+            Err(refusal) => {
+                println!(rt; "  read  refused with {}", refusal.number())?;
+                return Ok(());
+            }
+        };
+        let id = received.id();
+        let data = data_of(frame.body());
+        let hex = Hex(&data[..4]);
+        match self.reader.take(received) {
+            Some(number) => println!(rt;
+                "  read  {frame}, data {hex}, connection ID {id}, taken as number {number}"
+            )?,
+            None => println!(rt; "  read  {frame}, data {hex}, connection ID {id}, wrong CRC")?,
+        }
+        Ok(())
+    }
 }

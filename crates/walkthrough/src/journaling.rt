@@ -31,14 +31,12 @@ pub fn keep_journal(rt: &HostRuntime) -> anyhow::Result<()> {
 
 // The line of a module whose profile refuses the user parameters with a code of its own.
 fn refused_parameters() -> anyhow::Result<Line> {
-    match DeviceCode::new(128) {
-        Some(code) => Ok(Line {
-            fault: Fault::Device(code),
-            state: State::Parameter,
-            command: 0x36,
-        }),
-        None => Err(anyhow!("128 is no device code")),
-    }
+    let code = DeviceCode::new(128).ok_or_else(|| anyhow!("128 is no device code"))?;
+    Ok(Line {
+        fault: Fault::Device(code),
+        state: State::Parameter,
+        command: 0x36,
+    })
 }
 
 fn put(rt: &HostRuntime, journal: &mut Journal<'_, Line>, line: Line) -> anyhow::Result<()> {

@@ -4,7 +4,6 @@
 
 mod framing;
 mod journaling;
-mod outputs;
 
 use commissioning::commission;
 use framing::exchange_frames;

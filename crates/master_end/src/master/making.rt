@@ -29,18 +29,12 @@ impl<S: Sink> Master<S> {
         ensures draft { result.draft ≡ self.plan.draft }
     {
         let Master {
-            endpoint: Endpoint {
-                state: _,
-                link: _,
-                sink,
-            },
+            endpoint,
             outlet: _,
             plan,
         } = self;
-        let mut sink = sink;
-        sink.clear();
         Dismissed {
-            sink,
+            sink: endpoint.into_sink(),
             draft: plan.reopen(),
         }
     }

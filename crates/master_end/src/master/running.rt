@@ -1,38 +1,13 @@
-// Lists of calls, and a whole run from the making on.
-ghost use Rattle.master_end.specs.Histories.{Did, Runs};
+// A whole run, from the making on. One `run` for both ends is no plainer: they are made of different things.
+ghost use Rattle.master_end.specs.Histories.{Runs};
 
 use super::Master;
 use faults::line::Line;
 use history::call::Call;
-use history::running::{End, make_all};
+use history::running::make_all;
 use journal::Journal;
 use plan::SealedPlan;
 use sink::Sink;
-
-impl<S: Sink> End for Master<S> {
-    ghost did = { Did S.Sink };
-
-    fn make(&mut self, call: Call<'_>, journal: &mut Journal<'_, Line>, reply: &mut [u8]) {
-        match call {
-            Call::Tick => {
-                let _ = self.tick(journal, reply);
-            }
-            Call::Reset => {
-                let _ = self.reset(journal, reply);
-            }
-            Call::ReadOut => {
-                let _ = journal.read_out();
-            }
-            Call::Feedback(working) => self.feedback(working),
-            Call::Set(octets, command) => {
-                let _ = self.set(octets, command);
-            }
-            Call::Frame(octets, session) => {
-                let _ = self.frame(octets, session, journal, reply);
-            }
-        }
-    }
-}
 
 impl<S: Sink> Master<S> {
     // Makes a master, and then the calls in order. Where the journal is new, a bit that the master shows then comes from a

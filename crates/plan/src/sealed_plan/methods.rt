@@ -1,5 +1,6 @@
 // Sealing a draft, asking a sealed plan for its values, and reopening it.
 ghost use Rattle.std.specs.Prelude.{◌≡◌, ◌≤◌};
+ghost use Rattle.std.specs.Result.{result_err};
 ghost use Rattle.plan.specs.Sealing.{Sealed, refused};
 
 use super::{SealedPlan, Unsealed};
@@ -12,27 +13,27 @@ impl Draft {
     pub fn seal(self) -> Result<SealedPlan, Unsealed>
         ensures { Sealed self result }
     {
-        match self.refusal() {
-            Some(refusal) => Err(Unsealed {
+        match self.check() {
+            Ok(()) => Ok(SealedPlan { draft: self }),
+            Err(refusal) => Err(Unsealed {
                 draft: self,
                 refusal,
             }),
-            None => Ok(SealedPlan { draft: self }),
         }
     }
 
-    // The first refusal that sealing would meet.
-    fn refusal(&self) -> Option<Refusal>
-        ensures { result ≡ refused self.now }
+    // The refusal that sealing would meet first, or nothing.
+    fn check(&self) -> Result<(), Refusal>
+        ensures { result_err result ≡ refused self.now }
     {
         if self.id == 0 {
-            Some(Refusal::ZeroConnectionId)
+            Err(Refusal::ZeroConnectionId)
         } else if self.watchdog == 0 {
-            Some(Refusal::ZeroWatchdog)
+            Err(Refusal::ZeroWatchdog)
         } else if self.user_octets > 16 {
-            Some(Refusal::TooManyUserOctets)
+            Err(Refusal::TooManyUserOctets)
         } else {
-            None
+            Ok(())
         }
     }
 }

@@ -1,4 +1,6 @@
 // The calls that are the same at both ends.
+// Journal and reply buffer are lent apart: each has its owner, who reads it between the calls. In a struct of two loans, made
+// anew for each call, they are no plainer.
 ghost use Rattle.std.specs.Prelude.{◌≡◌};
 ghost use Rattle.shared_end.specs.Link.{Setting};
 ghost use Rattle.shared_end.specs.Endpoints.{with_link, with_sink};
@@ -24,9 +26,7 @@ impl<S: Sink> Endpoint<S> {
     ) -> Result<Answer, Refusal>
         ensures { Ticking S.Sink runs self.old reply.old journal.old result self.new reply.new journal.new }
     {
-        if reply.len() < self.link.size.frame_octets() {
-            return Err(Refusal::ShortReplyBuffer);
-        }
+        self.link.check_room(reply)?;
         if !self.link.tick(runs) {
             return Ok(Answer {
                 state: self.state,
@@ -48,13 +48,24 @@ impl<S: Sink> Endpoint<S> {
     ) -> Result<Answer, Refusal>
         ensures { Resetting S.Sink self.old reply.old _journal.old result self.new reply.new _journal.new }
     {
-        if reply.len() < self.link.size.frame_octets() {
-            return Err(Refusal::ShortReplyBuffer);
-        }
+        self.link.check_room(reply)?;
         self.restart(0).fill(reply);
         Ok(Answer {
             state: self.state,
             line: None,
         })
+    }
+
+    // What is left of an end that is dismissed: its sink, cleared.
+    pub fn into_sink(self) -> S
+        ensures { result ≡ S.Sink.cleared self.sink }
+    {
+        let Endpoint {
+            state: _,
+            link: _,
+            mut sink,
+        } = self;
+        sink.clear();
+        sink
     }
 }

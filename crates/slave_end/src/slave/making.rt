@@ -32,16 +32,13 @@ impl<S: Sink, P: Profile> Slave<S, P> {
         ensures profile { result.profile ≡ self.profile }
     {
         let Slave {
-            endpoint: Endpoint {
-                state: _,
-                link: _,
-                sink,
-            },
+            endpoint,
             inlet: _,
             profile,
         } = self;
-        let mut sink = sink;
-        sink.clear();
-        Dismissed { sink, profile }
+        Dismissed {
+            sink: endpoint.into_sink(),
+            profile,
+        }
     }
 }

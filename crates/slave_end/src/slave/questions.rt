@@ -1,4 +1,5 @@
-// What a slave is asked. A question changes nothing.
+// What a slave is asked. A question changes nothing. A trait with the questions of both ends is no plainer: the clauses `live`
+// and `told` are each end's own, and the others read a field.
 ghost use Rattle.std.specs.Prelude.{◌≡◌};
 ghost use Rattle.slave_end.specs.Histories.{AlwaysLive, AlwaysTold};
 

@@ -1,39 +1,14 @@
-// Lists of calls, and a whole run from the making on.
-ghost use Rattle.slave_end.specs.Histories.{Did, Runs};
+// A whole run, from the making on. One `run` for both ends is no plainer: they are made of different things.
+ghost use Rattle.slave_end.specs.Histories.{Runs};
 
 use super::Slave;
 use faults::line::Line;
 use history::call::Call;
-use history::running::{End, make_all};
+use history::running::make_all;
 use journal::Journal;
 use length::DataLength;
 use profile::Profile;
 use sink::Sink;
-
-impl<S: Sink, P: Profile> End for Slave<S, P> {
-    ghost did = { Did S.Sink P.Profile };
-
-    fn make(&mut self, call: Call<'_>, journal: &mut Journal<'_, Line>, reply: &mut [u8]) {
-        match call {
-            Call::Tick => {
-                let _ = self.tick(journal, reply);
-            }
-            Call::Reset => {
-                let _ = self.reset(journal, reply);
-            }
-            Call::ReadOut => {
-                let _ = journal.read_out();
-            }
-            Call::Feedback(working) => self.feedback(working),
-            Call::Set(octets, command) => {
-                let _ = self.set(octets, command);
-            }
-            Call::Frame(octets, session) => {
-                let _ = self.frame(octets, session, journal, reply);
-            }
-        }
-    }
-}
 
 impl<S: Sink, P: Profile> Slave<S, P> {
     // Makes a slave, and then the calls in order. Where the journal is new, a bit that the slave shows then comes from a

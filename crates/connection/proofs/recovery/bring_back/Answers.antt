@@ -1,5 +1,6 @@
 -- The calls bring the connection back.
 use Rattle.std.proofs.Common.{◌-◌, length, subst}
+use Rattle.history.proofs.Lasting.{lawful}
 use Rattle.connection.specs.Driving.{held, InOrder}
 use Rattle.connection.proofs.Bringing.{nothing_against, brought}
 use Rattle.connection.proofs.recovery.bring_back.Goals as goal
@@ -12,7 +13,7 @@ returns g c =
       nothing_against (length octets) c.octets-d.result c.octets.result e.endpoint.link.size f.endpoint.link.size c.size.result c.size-2.result
           c.if-octets-d.false c.if-octets-d-2.false c.octets-d.ensures.value c.size.ensures c.octets.ensures.value c.size-2.ensures,
       brought g.S.Sink g.T.Sink g.P.Profile e f octets
-          (record { effects = g.met.T.Sink.effects; within = g.met.T.Sink.within })
+          (lawful g.met.T.Sink.effects g.met.T.Sink.within)
           c.args.sessions c.shows.result c.repeat.new.master c.repeat.new.slave
           c.args.master_journal.now c.repeat.new.master_journal c.args.slave_journal.now c.repeat.new.slave_journal
           (record {

@@ -17,6 +17,7 @@ returns c =
     let n_high : n / 256 % 256 ≡ n / 256 = omega arith in
     let w_is : c.to_le_bytes.result ≡ low_high w = c.to_le_bytes.ensures ∙ ap (λ h. w % 256 ∷ h ∷ []) w_high in
     let n_is : c.to_le_bytes-2.result ≡ low_high n = c.to_le_bytes-2.ensures ∙ ap (λ h. n % 256 ∷ h ∷ []) n_high in
-    let front_is : c.copy_from_slice.new.self ≡ take n user = c.copy_from_slice.ensures.after ∙ ap (λ k. take k user) all in
+    let front_is : c.copy_from_slice-2.new.self ≡ take n user = c.copy_from_slice-2.ensures.after ∙ ap (λ k. take k user) all in
     let back_is : drop (6 + n - 6) (replicate 58 0) ≡ replicate (58 - n) 0 = rw behind (drop-replicate n 58 0) in
-    λ i. 2 ∷ 0 ∷ get_or (w_is i) 0 0 ∷ get_or (w_is i) 1 0 ∷ get_or (n_is i) 0 0 ∷ get_or (n_is i) 1 0 ∷ (front_is i ++ back_is i)
+    rw c.copy_from_slice.ensures.after
+    (λ i. 2 ∷ 0 ∷ get_or (w_is i) 0 0 ∷ get_or (w_is i) 1 0 ∷ get_or (n_is i) 0 0 ∷ get_or (n_is i) 1 0 ∷ (front_is i ++ back_is i))

@@ -1,16 +1,12 @@
 -- The code that is built is that of the definition: a range has only one proof.
-use Rattle.std.proofs.Common.{◌≡◌, ℕ, Bool, true, false, leb, Some, Option, sym, refl, ap, ◌∙◌, true≢false}
-use mathlib.Core.Bool.{Bool-set}
+use Rattle.std.proofs.Common.{◌≡◌, ℕ, Bool, true, false, nat_le, Some, refl, ap}
+use Rattle.std.proofs.Math.Bool.{Bool-set}
 use Rattle.faults.specs.DeviceCodes.{code_by}
-use Rattle.faults.specs.declared.device_code.DeviceCode.{DeviceCode}
 use Rattle.faults.proofs.device_code.DeviceCode.new.Goals as goal
 
-abbrev built : (n : ℕ) → leb 128 n ≡ true → Option DeviceCode
-built n p = Some (record { number = n; own = p })
-
-built_code : (n : ℕ) (b : Bool) (e : leb 128 n ≡ b) (p : leb 128 n ≡ true) → built n p ≡ code_by n b e
-built_code n true e p = ap (built n) (Bool-set (leb 128 n) true p e)
-built_code n false e p = absurd (true≢false (sym p ∙ e))
+built : (n : ℕ) (b : Bool) (e : nat_le 128 n ≡ b) (own : nat_le 128 n ≡ true) → Some (record { number = n; own = own }) ≡ code_by n b e
+built n true e own = ap (λ p. Some (record { number = n; own = p })) (Bool-set (nat_le 128 n) true own e)
+built n false e own = cc
 
 pub returns-then-number-ge-FIRST : goal.returns-then-number-ge-FIRST
-returns-then-number-ge-FIRST c = let n = c.args.number in built_code n (leb 128 n) refl _
+returns-then-number-ge-FIRST c = let n = c.args.number in built n (nat_le 128 n) refl _

@@ -1,21 +1,13 @@
--- The loop gathers what the parts say, and all of them stand in a whole frame.
-use Rattle.std.proofs.Common.{◌≡◌, ◌/◌, true, ◌&&◌, sym, ap, ◌∙◌, add-one, arith, rules}
-use Rattle.frame.specs.Reading.{right, whole, parts_right, body}
+-- The closure tells of each part whether it is right.
+use Rattle.std.proofs.Common.{refl, sym, ◌∙◌, arith, rules, tests}
+use Rattle.std.proofs.lemmas.Iterator.{YieldsList-from_range}
+use Rattle.std.proofs.lemmas.Iterator.Search.{all_from_yields_List}
+use Rattle.frame.specs.Reading.{part_right}
+use Rattle.frame.proofs.Checking.{all_right}
 use Rattle.frame.proofs.received.Received.is_right.Goals as goal
 
-pub returns-then-not-whole : goal.returns-then-not-whole
-unfolding right
-returns-then-not-whole c = search rules
-
-pub loop-i-preserved : goal.loop-i-preserved
-loop-i-preserved c = rw add-one (cc)
-
 pub returns : goal.returns
-unfolding right
 returns c =
-    let every : c.loop-i.i ≡ c.args.self.size.octets / 2 = omega arith in
-    let is_whole : whole c.args.self.size.octets c.args.self.octets.now ≡ true = sym c.whole.ensures ∙ c.if-not-whole.false in
-    c.loop-i.invariant
-    ∙ ap (parts_right c.args.shared.register.bits c.body-body.result.now) every
-    ∙ ap (λ b. parts_right c.args.shared.register.bits b (c.args.self.size.octets / 2)) c.body-body.ensures
-    ∙ ap (λ w. w && parts_right c.args.shared.register.bits (body c.args.self.size.octets c.args.self.octets.now) (c.args.self.size.octets / 2)) (sym is_whole)
+    all_right _ c.args.shared.register.bits c.parts.result _ c.body-body.result.now c.all.result
+    (all_from_yields_List (part_right c.args.shared.register.bits c.body-body.result.now) _ _ c.all.result c.all.ensures.ran (YieldsList-from_range 0 c.parts.result c.parts.result refl (omega arith)) (λ x b q k. search (rules, tests)))
+    (sym c.whole.ensures ∙ c.if-not-whole.false) c.body-body.ensures c.parts.ensures.value

@@ -1,4 +1,5 @@
 use Rattle.std.proofs.Common.{rules}
+use Rattle.history.proofs.Lasting.{lawful}
 use Rattle.slave_end.proofs.Lighting.{always_live}
 use Rattle.slave_end.proofs.slave.Slave.shows.Goals as goal
 
@@ -6,6 +7,6 @@ pub returns : goal.returns
 returns g c = record {
   value = search rules;
   live =
-      always_live g.S.Sink (record { effects = g.met.S.Sink.effects; within = g.met.S.Sink.within }) g.P.Profile
+      always_live g.S.Sink (lawful g.met.S.Sink.effects g.met.S.Sink.within) g.P.Profile
       g.met.P.Profile.ranges c.args.self.now;
 }

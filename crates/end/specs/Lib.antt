@@ -1,2 +1,0 @@
-pub mod Link
-pub mod Data

@@ -1,5 +1,0 @@
-// The slave end of a connection.
-#![tactic(auto)]
-
-mod record;
-mod slave;
