@@ -7,7 +7,7 @@ ghost use Rattle.commissioned.specs.Commissioned.{Unused, Commissioned};
 
 use commissioning::draft_plan;
 use master_end::Master;
-use plan::SealedPlan;
+use plan::{Draft, SealedPlan};
 use sinks::Bank;
 
 // The user parameter octets of the module: one number, 500.
@@ -31,10 +31,12 @@ fn make_master(rt: &HostRuntime, plan: SealedPlan) -> anyhow::Result<Master<Bank
 }
 
 // Dismissing the master opens its plan again.
-pub fn dismiss(rt: &HostRuntime, master: Master<Bank>) -> anyhow::Result<()> {
+pub fn dismiss(rt: &HostRuntime, master: Master<Bank>) -> anyhow::Result<Draft>
+    ensures { IfOk result (λ d. d ≡ master.plan.draft) }
+{
     let dismissed = master.dismiss();
     let draft = dismissed.draft;
     println!(rt; "dismiss the master: its inputs are cleared, and its plan is a draft again")?;
     println!(rt; "draft: {draft}")?;
-    Ok(())
+    Ok(draft)
 }

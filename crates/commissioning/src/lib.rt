@@ -3,7 +3,7 @@
 #![tactic(auto)]
 
 ghost use Rattle.std.specs.Prelude.{◌≡◌, IfOk};
-ghost use Rattle.commissioning.specs.Planned.{Planned};
+ghost use Rattle.commissioning.specs.Planned.{Drafted, Planned};
 
 use anyhow::anyhow;
 use codes::refusal::Refusal;
@@ -11,7 +11,10 @@ use length::DataLength;
 use master::Master;
 use plan::{Draft, SealedPlan};
 
-pub fn commission(rt: &HostRuntime) -> anyhow::Result<()> {
+// Answers the draft that the dismissed master gave back.
+pub fn commission(rt: &HostRuntime) -> anyhow::Result<Draft>
+    ensures { IfOk result Drafted }
+{
     let plan = draft_plan(rt)?;
     use_once(rt, plan)
 }
@@ -83,12 +86,14 @@ fn seal_corrected(rt: &HostRuntime, draft: Draft) -> anyhow::Result<SealedPlan>
 }
 
 // The plan makes its one master; dismissing that opens the plan again.
-fn use_once(rt: &HostRuntime, plan: SealedPlan) -> anyhow::Result<()> {
+fn use_once(rt: &HostRuntime, plan: SealedPlan) -> anyhow::Result<Draft>
+    ensures { IfOk result (λ d. d ≡ plan.draft) }
+{
     let master = Master::new(plan);
     let id = master.plan().id();
     let draft = master.dismiss();
     println!(rt; "make the master of connection {id}: the sealed plan is used up")?;
     println!(rt; "dismiss the master: its plan is a draft again")?;
     println!(rt; "draft: {draft}")?;
-    Ok(())
+    Ok(draft)
 }

@@ -1,9 +1,14 @@
 // The ends of the connection, and what is printed of them.
+ghost use Rattle.std.specs.Prelude.{◌≡◌, [], IfOk, Ok};
+ghost use Rattle.journal.specs.Held.{entries};
+ghost use Rattle.connection.specs.Driving.{Exchanging};
+
 use connection::{Sessions, exchange};
 use faults::line::Line;
 use hexadecimal::Hex;
 use journal::Journal;
 use master_end::Master;
+use profile::Profile;
 use profiles::BankProfile;
 use sink::Sink;
 use sinks::Bank;
@@ -32,7 +37,9 @@ impl Ends<'_> {
         rt: &HostRuntime,
         count: usize,
         latest: [u8; 67],
-    ) -> anyhow::Result<[u8; 67]> {
+    ) -> anyhow::Result<[u8; 67]>
+        ensures { IfOk result (λ next. Exchanging ⟦<Bank as Sink>⟧ ⟦<Bank as Sink>⟧ ⟦<BankProfile as Profile>⟧ self.old.master.now self.old.slave SESSIONS latest (Ok next) self.new.master.now self.new.slave self.old.of_master self.new.of_master self.old.of_slave self.new.of_slave) }
+    {
         let frame = Hex(&latest[..FRAME]);
         println!(rt; "exchange {count}: the master sends {frame}")?;
         let next = exchange(
@@ -60,7 +67,9 @@ impl Ends<'_> {
     }
 
     // Reads both journals out.
-    pub fn read_journals(&mut self, rt: &HostRuntime) -> anyhow::Result<()> {
+    pub fn read_journals(&mut self, rt: &HostRuntime) -> anyhow::Result<()>
+        ensures { IfOk result (λ _. (entries self.new.of_master ≡ []) × (entries self.new.of_slave ≡ [])) }
+    {
         read_out(rt, "master", &mut self.of_master)?;
         read_out(rt, "slave", &mut self.of_slave)?;
         let missed = self.slave.missed(&self.of_slave);
@@ -70,7 +79,9 @@ impl Ends<'_> {
 }
 
 // Reads a journal out, line by line.
-fn read_out(rt: &HostRuntime, whose: &str, journal: &mut Journal<'_, Line>) -> anyhow::Result<()> {
+fn read_out(rt: &HostRuntime, whose: &str, journal: &mut Journal<'_, Line>) -> anyhow::Result<()>
+    ensures { IfOk result (λ _. entries journal.new ≡ []) }
+{
     let held = journal.held();
     println!(rt; "the journal of the {whose}: {held} lines")?;
     while let Some(line) = journal.read_out() {

@@ -20,5 +20,6 @@ fn walk(rt: &HostRuntime) -> anyhow::Result<()> {
     let lived = live(rt, &mut master);
     let dismissed = dismiss(rt, master);
     lived?;
-    dismissed
+    dismissed?;
+    Ok(())
 }

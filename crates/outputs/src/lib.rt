@@ -1,6 +1,9 @@
 // The module programmer tries out the output stages, the layers and the bank's parameter rules. Each action is printed.
 #![tactic(auto)]
 
+ghost use Rattle.std.specs.Prelude.{◌≡◌, IfOk};
+ghost use Rattle.sinks.specs.Banks.{new_bank};
+
 use layers::{HoldOff, Mask};
 use profile::Profile;
 use profiles::BankProfile;
@@ -9,7 +12,10 @@ use sinks::{Bank, Drive};
 
 const FULL: [u8; 32] = [0xFF; 32];
 
-pub fn try_outputs(rt: &HostRuntime) -> anyhow::Result<()> {
+// Answers the bank. Its last release was held off, since a down feedback came before it: the bank is as a new one.
+pub fn try_outputs(rt: &HostRuntime) -> anyhow::Result<Bank>
+    ensures { IfOk result (λ b. b ≡ new_bank) }
+{
     let mut bank = Bank::new();
     println!(rt; "a bank")?;
     release(rt, &mut bank)?;
@@ -23,12 +29,15 @@ pub fn try_outputs(rt: &HostRuntime) -> anyhow::Result<()> {
     println!(rt; "a mask of 0x3c over the bank")?;
     release(rt, &mut masked)?;
 
-    hold_off(rt, masked.into_below())?;
-    judge_parameters(rt)
+    let bank = hold_off(rt, masked.into_below())?;
+    judge_parameters(rt)?;
+    Ok(bank)
 }
 
 // A hold-off of 2 shows at the third accepted release; a refused one does not count.
-fn hold_off(rt: &HostRuntime, bank: Bank) -> anyhow::Result<()> {
+fn hold_off(rt: &HostRuntime, bank: Bank) -> anyhow::Result<Bank>
+    ensures { IfOk result (λ b. b ≡ new_bank) }
+{
     let mut held = HoldOff::new(2, bank);
     println!(rt; "a hold-off of 2 over the bank, cleared first")?;
     clear(rt, &mut held)?;
@@ -38,10 +47,13 @@ fn hold_off(rt: &HostRuntime, bank: Bank) -> anyhow::Result<()> {
     feedback(rt, &mut held, false)?;
     release(rt, &mut held)?;
     feedback(rt, &mut held, true)?;
-    release(rt, &mut held)
+    release(rt, &mut held)?;
+    Ok(held.into_below())
 }
 
-fn release<S: Sink>(rt: &HostRuntime, sink: &mut S) -> anyhow::Result<()> {
+fn release<S: Sink>(rt: &HostRuntime, sink: &mut S) -> anyhow::Result<()>
+    ensures { sink.new ≡ S.released sink.old FULL }
+{
     match sink.release(&FULL) {
         Ok(()) => print!(rt; "  release 0xff: ")?,
         Err(refusal) => print!(rt; "  release 0xff: refused with {refusal}; ")?,
@@ -49,13 +61,17 @@ fn release<S: Sink>(rt: &HostRuntime, sink: &mut S) -> anyhow::Result<()> {
     shows(rt, sink)
 }
 
-fn clear<S: Sink>(rt: &HostRuntime, sink: &mut S) -> anyhow::Result<()> {
+fn clear<S: Sink>(rt: &HostRuntime, sink: &mut S) -> anyhow::Result<()>
+    ensures { sink.new ≡ S.cleared sink.old }
+{
     sink.clear();
     print!(rt; "  clear: ")?;
     shows(rt, sink)
 }
 
-fn feedback<S: Sink>(rt: &HostRuntime, sink: &mut S, working: bool) -> anyhow::Result<()> {
+fn feedback<S: Sink>(rt: &HostRuntime, sink: &mut S, working: bool) -> anyhow::Result<()>
+    ensures { sink.new ≡ S.told sink.old working }
+{
     sink.feedback(working);
     let word = if sink.is_up() { "up" } else { "down" };
     print!(rt; "  feedback, {word}: ")?;
