@@ -9,25 +9,35 @@ use codes::refusal::Refusal;
 use sink::Sink;
 use std::array;
 
-// The octets ANDed with those of the mask, one by one.
-fn masked_by(octets: &[u8; 32], mask: &[u8; 32]) -> [u8; 32]
-    ensures { result ≡ masked octets.now mask.now }
-{
-    array::from_fn(|i| octets[i] & mask[i])
+#[derive(Drop)]
+struct MaskOctets {
+    octets: [u8; 32],
+}
+
+impl MaskOctets {
+    // The octets ANDed with those of the mask, one by one.
+    fn masked(&self, octets: &[u8; 32]) -> [u8; 32]
+        ensures { result ≡ masked octets.now self.now.octets }
+    {
+        array::from_fn(|i| octets[i] & self.octets[i])
+    }
 }
 
 #[derive(Drop)]
 pub struct Mask<S: Sink> {
-    mask: [u8; 32],
+    mask: MaskOctets,
     below: S,
 }
 
 impl<S: Sink> Mask<S> {
     // The sink, seen through a mask that stays.
-    pub fn new(mask: [u8; 32], below: S) -> Mask<S>
-        ensures { result ≡ mask_over mask below }
+    pub fn new(octets: [u8; 32], below: S) -> Mask<S>
+        ensures { result ≡ mask_over octets below }
     {
-        Mask { mask, below }
+        Mask {
+            mask: MaskOctets { octets },
+            below,
+        }
     }
 
     // Takes the layer away, and gives back the sink below as it is.
@@ -44,7 +54,7 @@ impl<S: Sink> Sink for Mask<S> {
 
     ghost up = { λ s. S.Sink.up s.below };
 
-    ghost would = { λ s o. S.Sink.would s.below (masked o s.mask) };
+    ghost would = { λ s o. S.Sink.would s.below (masked o s.mask.octets) };
 
     ghost released = { mask_released S.Sink };
 
@@ -54,10 +64,10 @@ impl<S: Sink> Sink for Mask<S> {
 
     ghost effects = { Prim.search rules };
 
-    ghost within = { λ s o i k h. let m = s.mask in masked_within o m i k (S.Sink.within s.below (masked o m) i k h) };
+    ghost within = { λ s o i k h. let m = s.mask.octets in masked_within o m i k (S.Sink.within s.below (masked o m) i k h) };
 
     fn release(&mut self, octets: &[u8; 32]) -> Result<(), Refusal> {
-        let passed = masked_by(octets, &self.mask);
+        let passed = self.mask.masked(octets);
         self.below.release(&passed)
     }
 
