@@ -1,3 +1,4 @@
 pub mod Storing
 pub mod Steps
 pub mod Outcomes
+pub mod Pending

@@ -7,6 +7,7 @@ ghost use Rattle.faults.specs.declared.state.State.TheVariants as state;
 ghost use Rattle.frame.specs.Reading.{padded};
 ghost use Rattle.frame.specs.declared.command.Command.TheVariants as command;
 ghost use Rattle.shared_end.specs.Outcomes.{Comes};
+ghost use Rattle.inlet.specs.Pending.{StartsAnew, KeepsStored, PassesTicks};
 ghost use Rattle.inlet.specs.Storing.{word};
 ghost use Rattle.inlet.specs.Steps.{Answered, first_connection, next_piece, first_parameter, Opens, reset_taken, session_taken, data_taken, next_data, parameter_fault, first_data};
 
@@ -26,7 +27,9 @@ impl Inlet {
         octets: &[u8],
         body: &[u8],
     ) -> Result<Step, Fault>
-        ensures { Comes (first_connection link.old self.old octets.now (padded body.now)) link.old self.old result link.new self.new }
+        ensures step { Comes (first_connection link.old self.old octets.now (padded body.now)) link.old self.old result link.new self.new }
+        ensures anew { StartsAnew link.old self.old octets.now (padded body.now) }
+        ensures ticks { PassesTicks (λ l. first_connection l self.old octets.now (padded body.now)) link.old }
     {
         let piece = data_of(body);
         let id = link.id_in(octets);
@@ -68,7 +71,8 @@ impl Inlet {
         body: &[u8],
     ) -> Result<Step, Fault>
         requires { total ≤ 32 }
-        ensures { Comes (next_piece link.old self.old octets.now state command total (padded body.now)) link.old self.old result link.new self.new }
+        ensures step { Comes (next_piece link.old self.old octets.now state command total (padded body.now)) link.old self.old result link.new self.new }
+        ensures ticks { PassesTicks (λ l. next_piece l self.old octets.now state command total (padded body.now)) link.old }
     {
         if self.stored >= total {
             return Err(Fault::InvalidCommand);
@@ -85,7 +89,8 @@ impl Inlet {
         octets: &[u8],
         body: &[u8],
     ) -> Result<Step, Fault>
-        ensures { Comes (first_parameter link.old self.old octets.now (padded body.now)) link.old self.old result link.new self.new }
+        ensures step { Comes (first_parameter link.old self.old octets.now (padded body.now)) link.old self.old result link.new self.new }
+        ensures ticks { PassesTicks (λ l. first_parameter l self.old octets.now (padded body.now)) link.old }
     {
         if self.stored < 4 {
             return Err(Fault::InvalidCommand);
@@ -106,7 +111,9 @@ impl Inlet {
 
     // A Reset frame.
     pub fn take_reset(&self, link: &mut Link, octets: &[u8]) -> Result<Step, Fault>
-        ensures { Comes (reset_taken link.old self.now octets.now) link.old self.now result link.new self.now }
+        ensures step { Comes (reset_taken link.old self.now octets.now) link.old self.now result link.new self.now }
+        ensures stored { KeepsStored (λ x. reset_taken link.old x octets.now) self.now }
+        ensures ticks { PassesTicks (λ l. reset_taken l self.now octets.now) link.old }
     {
         let _opened = opened(link, octets)?;
         link.freshen();
@@ -119,7 +126,9 @@ impl Inlet {
 
     // A Session frame. It is answered by a Session frame with the slave's session number.
     pub fn take_session(&self, link: &mut Link, octets: &[u8], session: u16) -> Result<Step, Fault>
-        ensures { Comes (session_taken link.old self.now octets.now session) link.old self.now result link.new self.now }
+        ensures step { Comes (session_taken link.old self.now octets.now session) link.old self.now result link.new self.now }
+        ensures stored { KeepsStored (λ x. session_taken link.old x octets.now session) self.now }
+        ensures ticks { PassesTicks (λ l. session_taken l self.now octets.now session) link.old }
     {
         let mut opened = opened(link, octets)?;
         let reply = opened.write(Command::Session, 0, &numbered(session));
@@ -149,7 +158,8 @@ impl Inlet {
         limits: Limits,
         verdict: Option<Fault>,
     ) -> Result<Step, Fault>
-        ensures { Comes (first_data link.old self.now octets.now limits verdict act) link.old self.now result link.new self.now }
+        ensures step { Comes (first_data link.old self.now octets.now limits verdict act) link.old self.now result link.new self.now }
+        ensures ticks { PassesTicks (λ l. first_data l self.now octets.now limits verdict act) link.old }
     {
         self.check_parameters(link, octets, limits, verdict)?;
         self.take_data(link, octets, act, self.number_at(2))
