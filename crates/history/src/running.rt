@@ -71,8 +71,26 @@ pub trait End {
     }
 }
 
+// What calls can be made at: each end, and a type of a user's own, such as one that counts the calls and passes them on.
+pub trait TakeCall {
+    // What a call, with its answer, makes of it and the journal.
+    ghost did: { event.Event → Self → Kept Line → Self → Kept Line → Type 0 };
+
+    // Takes one call. Its answer is let go.
+    fn take_call(&mut self, call: Call<'_>, journal: &mut Journal<'_, Line>, reply: &mut [u8])
+        ensures { Makes did call.entry self.old journal.old self.new journal.new };
+}
+
+impl<E: End> TakeCall for E {
+    ghost did = { E.did };
+
+    fn take_call(&mut self, call: Call<'_>, journal: &mut Journal<'_, Line>, reply: &mut [u8]) {
+        self.make(call, journal, reply);
+    }
+}
+
 // Makes the calls in order.
-pub fn make_all<E: End>(
+pub fn make_all<E: TakeCall>(
     end: &mut E,
     calls: &[Call<'_>],
     journal: &mut Journal<'_, Line>,
@@ -81,6 +99,6 @@ pub fn make_all<E: End>(
     ensures { Ran E.did calls.now end.old journal.old end.new journal.new }
 {
     for call in calls {
-        end.make(*call, journal, reply);
+        end.take_call(*call, journal, reply);
     }
 }
