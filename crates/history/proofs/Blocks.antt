@@ -8,7 +8,7 @@ use Rattle.shared_end.specs.declared.step.Act.{Act}
 use Rattle.history.specs.Events.{Event, Took, Idle}
 use Rattle.history.specs.Live as live
 use Rattle.history.specs.Live.{Since}
-use Rattle.history.proofs.Taking.{Tells, process_data, fail_safe_data}
+use Rattle.history.proofs.Taking.{Tells, data_since}
 
 -- so many octets of the connection block have come, fewer than the bound
 pub record Connecting (d at bound : ℕ) (es : List Event) : Type 0 where
@@ -129,5 +129,4 @@ module _ {d n w : ℕ} {watchdog : List (List ℕ) → ℕ} {es : List Event} wh
 
   pub flowing_more : {piece : List ℕ} {event : Event} {k : Command} {act : Act} (octets : List ℕ) → Tells piece k act → Took k octets event →
       Flowing d n watchdog es w → Flowing d n watchdog (event ∷ es) w
-  flowing_more octets process_data took q = flowing_on q (live.process_data took q.since)
-  flowing_more octets fail_safe_data took q = flowing_on q (live.fail_safe_data took q.since)
+  flowing_more octets tells took q = flowing_on q (data_since tells took q.since)

@@ -1,6 +1,6 @@
 -- What a sink shows, and where it came from, over the calls that are the same at both ends. Assumes nothing.
 use Rattle.std.proofs.Common.{◌≡◌, ℕ, ◌+◌, ◌-◌, ◌<◌, ◌≤◌, Bool, true, false, cond, not, ◌&&◌, leb, List, ◌∷◌, Some, None, Ok, sym, refl, ap, ◌∙◌, subst, arith, leb-false}
-use Rattle.faults.specs.declared.fault.Fault.TheVariants.{SinkDown}
+use Rattle.faults.specs.declared.fault.Fault.TheVariants.{SinkDown, WatchdogExpired}
 use Rattle.faults.specs.declared.state.State.{State}
 use Rattle.faults.specs.declared.state.State.TheVariants as s
 use Rattle.frame.specs.declared.command.Command.TheVariants.{ProcessData}
@@ -14,8 +14,8 @@ use Rattle.shared_end.specs.declared.link.Link.{Link}
 use Rattle.shared_end.specs.declared.step.Act.TheVariants.{Release}
 use Rattle.shared_end.specs.declared.data_command.DataCommand.{DataCommand}
 use Rattle.shared_end.specs.Link.{expires, counted, with_outputs}
-use Rattle.shared_end.specs.Endpoints.{width, with_link, with_sink, missed, restarted}
-use Rattle.shared_end.specs.Calls.{line_of}
+use Rattle.shared_end.specs.Endpoints.{width, with_link, with_sink, missed, restarted, ticked}
+use Rattle.shared_end.specs.Calls.{line_of, tick_fault}
 use Rattle.history.specs.Events.{Event, Took, Idle, NotDown, line, ticks, tick, feedback}
 use Rattle.history.specs.Live.{data_octets, Carried, here, later}
 
@@ -93,6 +93,17 @@ module _ {S : Type 0} (m : Ghosts S) where
           some = omega (arith, less, more);
           carried = λ i k lit. later l tt (g.carried i k lit);
         })
+
+    pub shines_tick : (runs : Bool) (a : Answer) (es : List Event) (c c' : Endpoint S) → (c.state ≡ s.Data → runs ≡ true) →
+        c' ≡ ticked m runs c → a.line ≡ line_of c.state 0 (tick_fault m runs c) → Shines es c → Shines (tick (Ok a) ∷ es) c'
+    shines_tick runs a es c c' r same l g = by (expires runs c.link) refl where
+      by : (b : Bool) → expires runs c.link ≡ b → Shines (tick (Ok a) ∷ es) c'
+      by true x =
+          subst (Shines (tick (Ok a) ∷ es)) (sym (same ∙ ap (λ b. cond b (restarted m c) (with_link c (counted runs c.link))) x))
+          (restarted_dark c)
+      by false x =
+          subst (Shines (tick (Ok a) ∷ es)) (sym (same ∙ ap (λ b. cond b (restarted m c) (with_link c (counted runs c.link))) x))
+          (counted_on c.state runs a es c r (l ∙ ap (λ b. line_of c.state 0 (cond b (Some WatchdogExpired) None)) x) x g)
 
     -- a feedback
     told_dark : (u : Bool) (c : Endpoint S) → Dark c → Dark (with_sink c (m.told c.sink u))

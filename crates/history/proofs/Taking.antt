@@ -19,7 +19,8 @@ use Rattle.shared_end.specs.Outcomes.{Outcome, is_taken}
 use Rattle.shared_end.specs.Endpoints.{acted, missed, raised}
 use Rattle.shared_end.specs.Calls.{line_of}
 use Rattle.history.specs.Events.{Event, Took, line}
-use Rattle.history.specs.Live.{data_octets}
+use Rattle.history.specs.Live as live
+use Rattle.history.specs.Live.{data_octets, Since}
 use Rattle.history.proofs.Shining.{Glows, released_glows, cleared_glows}
 
 -- a link for frames of the same data length
@@ -39,6 +40,11 @@ module _ {S : Type 0} (m : Ghosts S) (law : Lawful m) (es : List Event) (event :
       Glows m (event ∷ es) (record { state = s.Data; link = l; sink = acted m act sink })
   told_glows process_data took noted = released_glows m law es event l sink time some octets before command took noted
   told_glows fail_safe_data took noted = cleared_glows m law es event l sink time some
+
+pub data_since : {piece octets : List ℕ} {es : List Event} {event : Event} {k : Command} {act : Act} {ds ps cs : List (List ℕ)} →
+    Tells piece k act → Took k octets event → Since es ds ps cs → Since (event ∷ es) (octets ∷ ds) ps cs
+data_since process_data took since = live.process_data took since
+data_since fail_safe_data took since = live.fail_safe_data took since
 
 -- what the answer says of a frame of a kind and its outcome
 pub record Says {S X : Type 0} (m : Ghosts S) (e : Endpoint S) (octets : List ℕ) (r : FrameAnswer) (k : Option Command) (o : Outcome X) : Type 0 where

@@ -50,14 +50,7 @@ on n event es s.Parameter d w x i p = parametrizing_idle i p
 on n event es s.Data d w x i p = flowing_idle i p
 
 abbrev pub path : (n : ℕ) → Path Inlet
-path n = record {
-  Along = λ es st d w x. Progress d n es x st w;
-  idles = on n;
-  restarts = λ event es st d w x p. tt;
-  count = λ x. n;
-  watchdog = λ x. watchdog_in;
-  flows = λ es d w x f. f;
-}
+path n = record { Along = λ es st d w x. Progress d n es x st w; idles = on n; restarts = λ event es st d w x p. tt }
 
 module _ {S P : Type 0} (m : sink.Ghosts S) (law : Lawful m) (p : profile.Ghosts P) (ranges : Ranges p.USER_OCTETS p.LOWEST_WATCHDOG p.HIGHEST_WATCHDOG)
     (es : List Event) (e : Endpoint S) (x : Inlet) (octets : List ℕ) (session : ℕ) (r : FrameAnswer) where

@@ -24,7 +24,7 @@ use Rattle.master_end.specs.Matching.{asked}
 use Rattle.master_end.specs.Calls.{holding, Made, Frames}
 use Rattle.master_end.specs.Histories.{Making, Did, AlwaysLive, AlwaysTold, Runs}
 use Rattle.outlet.proofs.Moves.{move}
-use Rattle.outlet.proofs.Progress.{Own, path, stands}
+use Rattle.outlet.proofs.Progress.{Own, count, path, stands}
 
 module _ {S : Type 0} (m : Ghosts S) (law : Lawful m) where
   abbrev pub own : Master S → Own
@@ -50,6 +50,9 @@ module _ {S : Type 0} (m : Ghosts S) (law : Lawful m) where
     endpoint_back = λ e c. refl;
     own_back = λ e c. refl;
     path = path;
+    count = count;
+    watchdog = λ x d parameters. x.plan.draft.watchdog;
+    flows = λ es d w x f. f.progress;
     runs = λ e. true;
     data_runs = λ e d. refl;
     Frames = Frames m;

@@ -57,14 +57,7 @@ pub restarts : (event : Event) (es : List Event) (st : State) (d w : ℕ) (x : O
 restarts event es st d w x p = record { watchdog_is = p.watchdog_is; progress = tt }
 
 abbrev pub path : Path Own
-path = record {
-  Along = Along;
-  idles = idles;
-  restarts = restarts;
-  count = count;
-  watchdog = λ x d parameters. x.plan.draft.watchdog;
-  flows = λ es d w x f. f.progress;
-}
+path = record { Along = Along; idles = idles; restarts = restarts }
 
 module _ {S : Type 0} (m : Ghosts S) (law : Lawful m) (es : List Event) (e : Endpoint S) (x : Own) (octets : List ℕ) (session : ℕ) (r : FrameAnswer)
     (same : e.link.watchdog ≡ x.plan.draft.watchdog) where

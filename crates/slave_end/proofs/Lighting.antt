@@ -25,6 +25,7 @@ use Rattle.slave_end.specs.declared.slave.Slave.{Slave}
 use Rattle.slave_end.specs.Matching.{asked}
 use Rattle.slave_end.specs.Calls.{runs, holding, new_slave, Frames}
 use Rattle.slave_end.specs.Histories.{Making, Did, AlwaysLive, AlwaysTold, Runs}
+use Rattle.inlet.specs.Storing.{watchdog_in}
 use Rattle.inlet.proofs.Moves.{move}
 use Rattle.inlet.proofs.Progress.{path, stands}
 
@@ -51,6 +52,9 @@ module _ {S P : Type 0} (m : sink.Ghosts S) (law : Lawful m) (p : profile.Ghosts
     endpoint_back = λ e c. refl;
     own_back = λ e c. refl;
     path = way;
+    count = λ x. p.USER_OCTETS;
+    watchdog = λ x. watchdog_in;
+    flows = λ es d w x f. f;
     runs = λ e. runs e.endpoint.state;
     data_runs = λ e d. ap runs d;
     Frames = Frames m p;
