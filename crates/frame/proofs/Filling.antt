@@ -11,13 +11,13 @@ abbrev pub copied : (a k : ℕ) (octets before : List ℕ) → List ℕ
 copied a k octets before = take a before ++ (octets ++ drop k (drop a before))
 
 -- they are copied behind a front p, where zeros stood
-copied_behind : (p octets : List ℕ) (a k m n : ℕ) → length p ≡ a → m ≡ n + k → copied a k octets (p ++ replicate m 0) ≡ (p ++ octets) ++ replicate n 0
+pub copied_behind : (p octets : List ℕ) (a k m n : ℕ) → length p ≡ a → m ≡ n + k → copied a k octets (p ++ replicate m 0) ≡ (p ++ octets) ++ replicate n 0
 copied_behind p octets a k m n e s =
     let left : m - k ≡ n = omega arith in
     cc (take_at p (replicate m 0) a e, drop_at p (replicate m 0) a e, drop-replicate {X = ℕ} k m 0, append_assoc p octets (replicate n 0))
 
 -- a chunk that stands at place n of a list: its octets, and what follows chunk i of k octets each
-chunk_at : (xs chunk after : List ℕ) (n j : ℕ) → drop n xs ≡ chunk ++ after → j < length chunk → get_or chunk j 0 ≡ get_or xs (n + j) 0
+pub chunk_at : (xs chunk after : List ℕ) (n j : ℕ) → drop n xs ≡ chunk ++ after → j < length chunk → get_or chunk j 0 ≡ get_or xs (n + j) 0
 chunk_at xs chunk after n j e h = cc (get_or_append_left chunk after 0 j h, get_or-drop n xs j 0)
 
 pub after_chunk : (xs chunk after : List ℕ) (k i j : ℕ) → drop (k * i) xs ≡ chunk ++ after → length chunk ≡ k → j ≡ i + 1 → after ≡ drop (k * j) xs
@@ -27,10 +27,13 @@ after_chunk xs chunk after k i j e l next =
     cc (drop_at chunk after k l, drop-drop k (k * i) xs)
 
 -- the first two octets
-two_of : (xs : List ℕ) → 2 ≤ length xs → take 2 xs ≡ get_or xs 0 0 ∷ get_or xs 1 0 ∷ []
+pub two_of : (xs : List ℕ) → 2 ≤ length xs → take 2 xs ≡ get_or xs 0 0 ∷ get_or xs 1 0 ∷ []
 two_of [] h = absurd (omega arith)
 two_of (x ∷ []) h = absurd (omega arith)
 two_of (x ∷ y ∷ xs) h = refl
+
+pub both_of : (xs : List ℕ) → length xs ≡ 2 → xs ≡ get_or xs 0 0 ∷ get_or xs 1 0 ∷ []
+both_of xs h = cc (take_all 2 xs (omega arith), two_of xs (omega arith))
 
 pub length_parts : (register : ℕ) (octets : List ℕ) (i : ℕ) → length (parts register octets i) ≡ 4 * i
 length_parts register octets zero = refl
@@ -43,7 +46,7 @@ split n octets h e =
     cc
 
 -- one part more stands in the frame
-pub parts_more : (command register : ℕ) (given octets chunk after stored crc : List ℕ) (k i j : ℕ) → k ≡ i → j ≡ i + 1 → i < 16 → octets ≡ (command ∷ parts register given i) ++ replicate (66 - 4 * i) 0 → drop (2 * i) given ≡ chunk ++ after → length chunk ≡ 2 → stored ≡ chunk → crc ≡ low_high (part_crc register k (get_or chunk 0 0) (get_or chunk 1 0)) → copied (4 * k + 1 + 2) (4 * k + 1 + 4 - (4 * k + 1 + 2)) crc (copied (4 * k + 1) (4 * k + 1 + 2 - (4 * k + 1)) stored octets) ≡ (command ∷ parts register given j) ++ replicate (66 - 4 * j) 0
+pub parts_more : (command register : ℕ) (given octets chunk after stored crc : List ℕ) (k i j : ℕ) → k ≡ i → j ≡ i + 1 → i < 16 → octets ≡ (command ∷ parts register given i) ++ replicate (66 - 4 * i) 0 → drop (2 * i) given ≡ chunk ++ after → length chunk ≡ 2 → stored ≡ get_or chunk 0 0 ∷ get_or chunk 1 0 ∷ [] → crc ≡ low_high (part_crc register k (get_or chunk 0 0) (get_or chunk 1 0)) → copied (4 * k + 1 + 2) (4 * k + 1 + 4 - (4 * k + 1 + 2)) crc (copied (4 * k + 1) (4 * k + 1 + 2 - (4 * k + 1)) stored octets) ≡ (command ∷ parts register given j) ++ replicate (66 - 4 * j) 0
 parts_more command register given octets chunk after stored crc k i j this next h inv e l copy c =
     let front : List ℕ = command ∷ parts register given i in
     let long : length front ≡ 4 * i + 1 = omega (arith, length_parts register given i) in
@@ -52,8 +55,7 @@ parts_more command register given octets chunk after stored crc k i j this next 
     let other_room : 4 * k + 1 + 4 - (4 * k + 1 + 2) ≡ 2 = omega arith in
     let place : 2 * i + 0 ≡ 2 * i = omega arith in
     let more : j ≡ suc i = omega arith in
-    let both = two_of chunk (omega arith) in
-    let whole = take_all 2 chunk (omega arith) in
+    let both = both_of chunk l in
     let a = chunk_at given chunk after (2 * i) 0 e (omega arith) in
     let b = chunk_at given chunk after (2 * i) 1 e (omega arith) in
     let stands : (front ++ chunk) ++ crc ≡ command ∷ parts register given (suc i) = cc (append_assoc front chunk crc) in

@@ -1,49 +1,27 @@
--- The data octets of a body, read one by one. Assumes nothing.
-use Rattle.std.proofs.Common.{◌≡◌, ℕ, zero, suc, ◌+◌, ◌-◌, ◌*◌, ◌/◌, ◌%◌, ◌<◌, min, List, [], ◌∷◌, ◌++◌, length, get_or, drop, replicate, refl, sym, ◌∙◌, subst, arith, length-append, get_or-drop}
-use Rattle.std.proofs.lemmas.List.{get_or-take, get_or-replicate, length-replicate, ext_get_or}
-use Rattle.std.specs.Array.{IsFromFnResultFrom}
-use Rattle.std.specs.Simd.{first_chunks}
-use denote.Param.Members.{Mut, Called}
+-- The data octets of a body, part by part. Assumes nothing.
+use Rattle.std.proofs.Common.{◌≡◌, ℕ, zero, suc, ◌+◌, ◌-◌, ◌*◌, ◌/◌, ◌<◌, ◌≤◌, min, List, [], ◌∷◌, ◌++◌, length, get_or, drop, replicate, refl, ap, arith, length-append, length-drop}
 use Rattle.frame.specs.Reading.{first, second, pairs, padded}
-
--- what `array::from_fn` made by a closure that stays as it is
-module _ {F : Type 0} (g : Mut F (ℕ × Unit {0}) ℕ) (f : F) (h : ℕ → ℕ) (calls : (i y : ℕ) (q : F) → Called g f (i, tt) y q → (y ≡ h i) × (q ≡ f)) (ys : List ℕ) where
-  pub made_by : (n i : ℕ) → IsFromFnResultFrom g f ys i n → (k j : ℕ) → k < n → i + k ≡ j → get_or ys j 0 ≡ h j
-  made_by zero i made k j l s = absurd (omega arith)
-  made_by (suc n) i (q, y, element, called, rest) zero j l s = grind (arith, element.1 0, calls i y q called)
-  made_by (suc n) i (q, y, element, called, rest) (suc k) j l s =
-      made_by n (i + 1) (subst (λ r. IsFromFnResultFrom g r ys (i + 1) n) (calls i y q called).1 rest) k j (omega arith) (omega arith)
+use Rattle.frame.proofs.Filling.{copied, copied_behind, chunk_at}
 
 length_pairs : (body : List ℕ) (i : ℕ) → length (pairs body i) ≡ 2 * i
 length_pairs body zero = refl
 length_pairs body (suc i) = omega (arith, length-append (pairs body i) (first body i ∷ second body i ∷ []), length_pairs body i)
 
--- the pairs of a body from its front on
-pairs_front : (body : List ℕ) (n : ℕ) → pairs body (suc n) ≡ first body 0 ∷ second body 0 ∷ pairs (drop 4 body) n
-pairs_front body zero = refl
-pairs_front body (suc n) = grind (arith, pairs_front body n, get_or-drop)
+-- a part that stands in a body ends within it
+pub part_within : (body chunk after : List ℕ) (i j : ℕ) → drop (4 * i) body ≡ chunk ++ after → length chunk ≡ 4 → j ≡ i + 1 → 4 * j ≤ length body
+part_within body chunk after i j e l next = omega (arith, ap length e, length-append chunk after, length-drop (4 * i) body)
 
--- octet i of those of so many parts
-abbrev pub data_octet : List ℕ → (count i : ℕ) → ℕ
-data_octet body count i = get_or (get_or (first_chunks 4 count body) (i / 2) []) (i % 2) 0
+-- one pair of data octets more is read
+pub pairs_more : (body octets chunk after stored : List ℕ) (k i j : ℕ) → k ≡ i → j ≡ i + 1 → i < 16 → octets ≡ pairs body i ++ replicate (32 - 2 * i) 0 → drop (4 * i) body ≡ chunk ++ after → length chunk ≡ 4 → stored ≡ get_or chunk 0 0 ∷ get_or chunk 1 0 ∷ [] → copied (2 * k) (2 * k + 2 - 2 * k) stored octets ≡ pairs body j ++ replicate (32 - 2 * j) 0
+pairs_more body octets chunk after stored k i j this next h inv e l both =
+    let room : 2 * k + 2 - 2 * k ≡ 2 = omega arith in
+    let place : 4 * i + 0 ≡ 4 * i = omega arith in
+    let more : j ≡ suc i = omega arith in
+    let a = chunk_at body chunk after (4 * i) 0 e (omega arith) in
+    let b = chunk_at body chunk after (4 * i) 1 e (omega arith) in
+    let one = copied_behind (pairs body i) stored (2 * i) 2 (32 - 2 * i) (32 - 2 * j) (length_pairs body i) (omega arith) in
+    cc
 
--- so it stands in the pairs, as far as there is room, with zeros behind them
-padded_at : (body : List ℕ) (count room i : ℕ) → i < 2 * room →
-    get_or (pairs body (min count room) ++ replicate (2 * room - 2 * min count room) 0) i 0 ≡ data_octet body count i
-padded_at body count zero i h = absurd (omega arith)
-padded_at body zero (suc room) i h = grind (arith, get_or-replicate)
-padded_at body (suc count) (suc room) zero h =
-    let more : min (suc count) (suc room) ≡ suc (min count room) = omega arith in
-    grind (arith, pairs_front, get_or-take)
-padded_at body (suc count) (suc room) (suc zero) h =
-    let more : min (suc count) (suc room) ≡ suc (min count room) = omega arith in
-    grind (arith, pairs_front, get_or-take)
-padded_at body (suc count) (suc room) (suc (suc i)) h =
-    let more : min (suc count) (suc room) ≡ suc (min count room) = omega arith in
-    grind (arith, pairs_front, padded_at (drop 4 body) count room i (omega arith))
-
-pub padded_each : (body xs : List ℕ) → length xs ≡ 32 → ((i : ℕ) → i < 32 → get_or xs i 0 ≡ data_octet body (length body / 4) i) → xs ≡ padded body
-padded_each body xs long each =
-    let n : ℕ = min (length body / 4) 16 in
-    ext_get_or 0 xs (padded body) (grind (arith, length_pairs, length-append, length-replicate))
-    (λ i h. each i (omega arith) ∙ sym (padded_at body (length body / 4) 16 i (omega arith)))
+-- as many pairs as the body has parts, up to 16
+pub all_pairs : (body octets : List ℕ) (i : ℕ) → i ≡ min (length body / 4) 16 → octets ≡ pairs body i ++ replicate (32 - 2 * i) 0 → octets ≡ padded body
+all_pairs body octets i count inv = cc

@@ -7,7 +7,7 @@ use crate::command::{Command, UnknownCommand};
 use codes::refusal::Refusal;
 use crc::part::Shared;
 use length::DataLength;
-use std::{array, fmt};
+use std::fmt;
 
 // A frame by its kind. Each known kind borrows the part between the command and the connection ID.
 // A rule of the project: kinds are cases that borrow the body. So there is no `Option` of a command with a body beside it.
@@ -168,6 +168,10 @@ fn part_is_right(body: &[u8], shared: Shared, i: u16) -> bool
 pub fn data_of(body: &[u8]) -> [u8; 32]
     ensures { result ≡ padded body.now }
 {
-    let (parts, _) = body.as_chunks::<4>();
-    array::from_fn(|i| parts.get(i / 2).map_or(0, |part| part[i % 2]))
+    let mut octets = [0; 32];
+    // By place: once `chunks_exact_mut` has lent the array, a proof knows no element of it.
+    for (i, part) in (0..16).zip(body.chunks_exact(4)) {
+        octets[2 * i..2 * i + 2].copy_from_slice(&part[..2]);
+    }
+    octets
 }

@@ -2,7 +2,7 @@
 use Rattle.std.proofs.Common.{◌≡◌, ◌*◌, ◌/◌, length, sym, refl, ap, ◌∙◌, ⊎_elim, arith, rules, length-drop}
 use Rattle.std.specs.Iterator.Adapters.{zip_first}
 use Rattle.crc.specs.Register.{low_high}
-use Rattle.frame.proofs.Filling.{after_chunk, split, parts_more, id_last}
+use Rattle.frame.proofs.Filling.{after_chunk, both_of, split, parts_more, id_last}
 use Rattle.frame.proofs.RoundTrip.{reads_back}
 use Rattle.frame.proofs.outgoing.Outgoing.new.Goals as goal
 
@@ -21,8 +21,9 @@ loop-i-preserved c =
       size = search rules;
       rest = after_chunk c.args.given.now _ _ 2 _ _ here long turn.2;
       written =
-          parts_more _ _ _ _ _ _ _ _ _ _ _ turn.1 turn.2 (omega arith) inv.written here long c.copy_from_slice.ensures.after
-          (c.copy_from_slice-in-loop-i.ensures.after ∙ split _ _ c.part-crc.type_inv c.to_le_bytes.ensures ∙ ap low_high c.part-crc.ensures);
+          parts_more _ _ _ _ _ _ _ _ _ _ _ turn.1 turn.2 (omega arith) inv.written here long
+          (cc (both_of c.in-Some.pair.now long, c.copy_from_slice.ensures.after))
+          (cc (both_of c.to_le_bytes.result (ap length c.to_le_bytes.ensures), c.copy_from_slice-in-loop-i.ensures.after, split _ _ c.part-crc.type_inv c.to_le_bytes.ensures, c.part-crc.ensures));
     }
 
 pub returns : goal.returns
