@@ -12,3 +12,4 @@ pub mod Returning
 pub mod Sizes
 pub mod Making
 pub mod Bringing
+pub mod Keeping

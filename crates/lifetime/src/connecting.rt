@@ -1,4 +1,7 @@
 // The life of the connection.
+ghost use Rattle.std.specs.Prelude.{◌≡◌};
+ghost use Rattle.lifetime.specs.Keeping.{KeepsPlan};
+
 use crate::ends::{Ends, SESSIONS};
 use connection::{bring_back, exchanges_needed};
 use faults::fault::Fault;
@@ -23,7 +26,10 @@ const BLANK: Line = Line {
 
 const ADDRESS: u16 = 85;
 
-pub fn live(rt: &HostRuntime, master: &mut Master<Bank>) -> anyhow::Result<()> {
+// The master keeps its plan, so dismissing it gives back the draft that was sealed.
+pub fn live(rt: &HostRuntime, master: &mut Master<Bank>) -> anyhow::Result<()>
+    ensures { master.new.plan ≡ master.old.plan }
+{
     println!(rt; "make the slave at address {ADDRESS}, with a bank of outputs")?;
     let mut master_places = [BLANK; 4];
     let mut slave_places = [BLANK; 4];
@@ -36,7 +42,7 @@ pub fn live(rt: &HostRuntime, master: &mut Master<Bank>) -> anyhow::Result<()> {
     };
     let done = ends.live(rt);
     let Ends {
-        master: _,
+        master: _master,
         slave,
         of_master: _,
         of_slave: _,
@@ -47,7 +53,9 @@ pub fn live(rt: &HostRuntime, master: &mut Master<Bank>) -> anyhow::Result<()> {
 }
 
 impl Ends<'_> {
-    fn live(&mut self, rt: &HostRuntime) -> anyhow::Result<()> {
+    fn live(&mut self, rt: &HostRuntime) -> anyhow::Result<()>
+        ensures { KeepsPlan self.old self.new }
+    {
         self.bring_up(rt)?;
         self.pull_cable(rt)?;
         self.recover(rt)?;
@@ -56,7 +64,9 @@ impl Ends<'_> {
     }
 
     // Exchange by exchange: the outputs are set at the promised one, and not before.
-    fn bring_up(&mut self, rt: &HostRuntime) -> anyhow::Result<()> {
+    fn bring_up(&mut self, rt: &HostRuntime) -> anyhow::Result<()>
+        ensures { KeepsPlan self.old self.new }
+    {
         let needed = exchanges_needed(self.master, &self.slave);
         println!(rt; "reset the master; {needed} exchanges bring the connection up")?;
         let mut latest = [0; 67];
@@ -72,7 +82,9 @@ impl Ends<'_> {
     }
 
     // No frame passes any more, and the ticks of both ends go on until both watchdogs have spoken.
-    fn pull_cable(&mut self, rt: &HostRuntime) -> anyhow::Result<()> {
+    fn pull_cable(&mut self, rt: &HostRuntime) -> anyhow::Result<()>
+        ensures { KeepsPlan self.old self.new }
+    {
         println!(rt; "pull the cable")?;
         for count in 1..=100 {
             self.tick(rt, count)?;
@@ -81,7 +93,9 @@ impl Ends<'_> {
     }
 
     // One millisecond at both ends.
-    fn tick(&mut self, rt: &HostRuntime, count: u32) -> anyhow::Result<()> {
+    fn tick(&mut self, rt: &HostRuntime, count: u32) -> anyhow::Result<()>
+        ensures { KeepsPlan self.old self.new }
+    {
         let mut reply = [0; 67];
         let answer = self.slave.tick(&mut self.of_slave, &mut reply)?;
         told(rt, count, "slave", answer.line)?;
@@ -90,7 +104,9 @@ impl Ends<'_> {
     }
 
     // A reset of the master and the same number of exchanges bring the connection back.
-    fn recover(&mut self, rt: &HostRuntime) -> anyhow::Result<()> {
+    fn recover(&mut self, rt: &HostRuntime) -> anyhow::Result<()>
+        ensures { KeepsPlan self.old self.new }
+    {
         println!(rt; "plug the cable in, and bring the connection back with 0a0b0c0d")?;
         let shown = bring_back(
             self.master,
@@ -106,7 +122,9 @@ impl Ends<'_> {
     }
 
     // A frame with a wrong CRC clears the outputs and is answered by a Reset frame.
-    fn damage(&mut self, rt: &HostRuntime) -> anyhow::Result<()> {
+    fn damage(&mut self, rt: &HostRuntime) -> anyhow::Result<()>
+        ensures { KeepsPlan self.old self.new }
+    {
         let damaged = [0x36, 1, 2, 0, 0, 3, 4, 0, 0, 0x34, 0x12];
         let hex = Hex(&damaged);
         println!(rt; "hand the slave {hex}, a frame with wrong CRCs")?;

@@ -2,6 +2,7 @@
 ghost use Rattle.std.specs.Prelude.{◌≡◌, [], IfOk, Ok};
 ghost use Rattle.journal.specs.Held.{entries};
 ghost use Rattle.connection.specs.Driving.{Exchanging};
+ghost use Rattle.lifetime.specs.Keeping.{KeepsPlan};
 
 use connection::{Sessions, exchange};
 use faults::line::Line;
@@ -38,7 +39,8 @@ impl Ends<'_> {
         count: usize,
         latest: [u8; 67],
     ) -> anyhow::Result<[u8; 67]>
-        ensures { IfOk result (λ next. Exchanging ⟦<Bank as Sink>⟧ ⟦<Bank as Sink>⟧ ⟦<BankProfile as Profile>⟧ self.old.master.now self.old.slave SESSIONS latest (Ok next) self.new.master.now self.new.slave self.old.of_master self.new.of_master self.old.of_slave self.new.of_slave) }
+        ensures exchanging { IfOk result (λ next. Exchanging ⟦<Bank as Sink>⟧ ⟦<Bank as Sink>⟧ ⟦<BankProfile as Profile>⟧ self.old.master.now self.old.slave SESSIONS latest (Ok next) self.new.master.now self.new.slave self.old.of_master self.new.of_master self.old.of_slave self.new.of_slave) }
+        ensures plan { KeepsPlan self.old self.new }
     {
         let frame = Hex(&latest[..FRAME]);
         println!(rt; "exchange {count}: the master sends {frame}")?;
@@ -68,7 +70,8 @@ impl Ends<'_> {
 
     // Reads both journals out.
     pub fn read_journals(&mut self, rt: &HostRuntime) -> anyhow::Result<()>
-        ensures { IfOk result (λ _. (entries self.new.of_master ≡ []) × (entries self.new.of_slave ≡ [])) }
+        ensures read { IfOk result (λ _. (entries self.new.of_master ≡ []) × (entries self.new.of_slave ≡ [])) }
+        ensures plan { KeepsPlan self.old self.new }
     {
         read_out(rt, "master", &mut self.of_master)?;
         read_out(rt, "slave", &mut self.of_slave)?;
